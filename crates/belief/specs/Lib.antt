@@ -1,0 +1,4 @@
+pub mod Sheets
+pub mod Meaning
+pub mod Calls
+pub mod Joined

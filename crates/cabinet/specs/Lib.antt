@@ -1,0 +1,5 @@
+pub mod Memory
+pub mod Calls
+pub mod Standing
+pub mod Sessions
+pub mod Inner

@@ -1,0 +1,4 @@
+pub mod Folds
+pub mod Laws
+pub mod Revisings
+pub mod Calls

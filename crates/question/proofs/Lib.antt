@@ -1,0 +1,13 @@
+pub mod Operands
+pub mod Scan
+pub mod Firsts
+pub mod Values
+pub mod Bounds
+pub mod Fields
+pub mod Stepping
+pub mod Gathered
+pub mod Front
+pub mod Laws
+pub mod Cases
+pub mod Asked
+pub mod Questions

@@ -1,0 +1,9 @@
+pub mod Folds
+pub mod Cuts
+pub mod Pieces
+pub mod Covers
+pub mod Weights
+pub mod Changes
+pub mod Combinations
+pub mod Simple
+pub mod Classes

@@ -1,0 +1,4 @@
+pub mod Boxes
+pub mod Pieces
+pub mod Combinations
+pub mod Changes
