@@ -1,21 +1,19 @@
 -- What boxes make of a question: whether it is carried, and what the pieces weigh that give an answer.
 use mathlib.Core.Path.{_≡_, refl, sym, ap, _∙_}
-use mathlib.Core.Bool.{Bool, true, false, cond, _&&_}
-use mathlib.Core.List.{List, [], _∷_, _++_}
-use Prim.Native.Nat.{ℕ, zero, suc, _+_, _≤_, _<_, _^_, min}
+use mathlib.Core.Bool.{Bool, true, false}
+use mathlib.Core.List.{List}
+use Prim.Native.Nat.{ℕ, zero, suc, _<_, min}
 use native.Mathlib.Omega.{arith}
 use lib.Dec.{leb}
 use lib.ListN.{getD, length}
-use borrow.Author.Tests.{leb-true, eqb-true}
 use Rattle.std.specs.Iters.{folded}
 use Rattle.std.specs.shelf.Lists.{kept-by}
 use Rattle.std.specs.declared.option.Option.the-variants.{Some, None}
-use Rattle.std.proofs.shelf.Tests.{cases-lt}
 use Rattle.std.proofs.shelf.Ways.{tells}
 use Rattle.question.specs.declared.checked.Question.{Question}
 use Rattle.question.specs.declared.steps.Step.{Step}
 use Rattle.question.specs.Expressions.{greatest}
-use Rattle.question.specs.Questions.{isStepped, stepsOf, steppedAs, readsIn, allBelow}
+use Rattle.question.specs.Questions.{stepsOf, steppedAs, readsIn, allBelow}
 use Rattle.question.specs.Texts.{text}
 use Rattle.question.proofs.Questions.{some-stepped, some-steps, none-stepped}
 use Rattle.ranges.specs.declared.shapes.WeightedBox.{WeightedBox}

@@ -1,6 +1,6 @@
 -- Four sides, and four bytes, one by one.
 use mathlib.Core.Path.{_≡_, refl, sym, ap, _∙_}
-use mathlib.Core.Bool.{Bool, true, false, cond, _&&_, _||_}
+use mathlib.Core.Bool.{Bool, true, false, _&&_, _||_}
 use mathlib.Core.List.{List, [], _∷_}
 use Prim.Native.Nat.{ℕ, zero, suc, _+_, _-_, _*_, _≤_, _<_, _^_}
 use native.Mathlib.Omega.{arith}
@@ -10,7 +10,7 @@ use lib.Dec.{leb, ltb}
 use Rattle.ranges.specs.declared.shapes.Side.{Side}
 use Rattle.question.specs.declared.steps.Step.{Step}
 use Rattle.ranges.specs.Boxes.{within, inside, fits, width, volume, corner, entire, apart}
-use Rattle.ranges.specs.Pieces.{cutsSide, below, above, cuts, lower, upper}
+use Rattle.ranges.specs.Pieces.{cutsSide, cuts, withSide}
 use Rattle.ranges.specs.Changes.{edges}
 use Rattle.boxes.specs.Holding.{between}
 
@@ -127,17 +127,11 @@ cut-past [] k v h = refl
 cut-past (x ∷ xs) zero v h = absurd (omega arith)
 cut-past (x ∷ xs) (suc k) v h = cut-past xs k v (omega arith)
 
-pub lower-at : (xs : List Side) (k v : ℕ) → set xs k (below (getD xs k no-side) v) ≡ lower xs k v
-unfolding lower
-lower-at [] k v = refl
-lower-at (x ∷ xs) zero v = refl
-lower-at (x ∷ xs) (suc k) v = ap (λ z. x ∷ z) (lower-at xs k v)
-
-pub upper-at : (xs : List Side) (k v : ℕ) → set xs k (above (getD xs k no-side) v) ≡ upper xs k v
-unfolding upper
-upper-at [] k v = refl
-upper-at (x ∷ xs) zero v = refl
-upper-at (x ∷ xs) (suc k) v = ap (λ z. x ∷ z) (upper-at xs k v)
+pub part-at : (g : Side → Side) (xs : List Side) (k : ℕ) → set xs k (g (getD xs k no-side)) ≡ withSide g xs k
+unfolding withSide
+part-at g [] k = refl
+part-at g (x ∷ xs) zero = refl
+part-at g (x ∷ xs) (suc k) = ap (λ z. x ∷ z) (part-at g xs k)
 
 -- ---- products of widths
 

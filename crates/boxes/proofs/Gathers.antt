@@ -9,7 +9,7 @@ use lib.ListN.{getD, set, length, take, replicate}
 use borrow.Author.Tests.{lt-ltb, eqb-true, eqb-false}
 use Rattle.std.specs.Iters.{folded}
 use Rattle.std.specs.shelf.Lists.{kept-by}
-use Rattle.std.proofs.shelf.Lists.{take-more-set, append-assoc, append-nil, length-set, getD-set-same, getD-set-other, getD-replicate, length-replicate, nil-from-length}
+use Rattle.std.proofs.shelf.Lists.{take-more-set, append-assoc, append-nil, length-set, getD-set-same, getD-set-other, getD-replicate, length-replicate}
 use Rattle.question.specs.declared.checked.Question.{Question}
 use Rattle.question.specs.Expressions.{greatest}
 use Rattle.question.specs.Texts.{text}
@@ -18,7 +18,6 @@ use Rattle.ranges.specs.Boxes.{volume, overBoxes, totalIn, peakIn}
 use Rattle.ranges.specs.Changes.{gives}
 use Rattle.boxes.specs.declared.lists.BoxList.{BoxList}
 use Rattle.boxes.specs.declared.takers.Tally.{Tally}
-use Rattle.boxes.specs.declared.takers.Sieve.{Sieve}
 use Rattle.boxes.specs.declared.takers.Press.{Press}
 use Rattle.boxes.specs.Holding.{most-boxes}
 use Rattle.boxes.specs.Takers.{capped, listed, put, answerOf, counted, untallied, tallied, sifted, cappedPiece, pressed, Holds}

@@ -1,6 +1,6 @@
 -- Pieces as they are handed on.
 use mathlib.Core.Path.{_≡_, refl, sym, ap, _∙_}
-use mathlib.Core.Bool.{Bool, true, false, cond}
+use mathlib.Core.Bool.{true, false}
 use mathlib.Core.List.{List, [], _∷_, _++_}
 use Prim.Native.Nat.{ℕ, _+_, _-_, _≤_, _<_}
 use native.Mathlib.Omega.{arith}
@@ -8,7 +8,6 @@ use lib.ListN.{getD, length, drop, take}
 use Rattle.std.specs.Iters.{folded}
 use Rattle.std.proofs.shelf.Lists.{at-drop-more, at-drop-all, take-all, nil-from-length}
 use Rattle.question.specs.declared.steps.Step.{Step}
-use Rattle.ranges.specs.declared.shapes.Side.{Side}
 use Rattle.ranges.specs.declared.shapes.WeightedBox.{WeightedBox}
 use Rattle.ranges.specs.Pieces.{cuts, lower, upper, cut, cutAll}
 use Rattle.ranges.proofs.Pieces.{part, cut-none, cut-parts, cut-whole}

@@ -1,8 +1,8 @@
 -- What leaning gives.
 use mathlib.Core.Path.{_≡_, refl, sym, ap, _∙_}
-use mathlib.Core.Bool.{Bool, true, false, cond, not, _&&_}
+use mathlib.Core.Bool.{Bool, true, false, cond, _&&_}
 use mathlib.Core.List.{List, [], _∷_, map}
-use Prim.Native.Nat.{ℕ, zero, suc, _+_, _*_, _≤_, _<_, _^_}
+use Prim.Native.Nat.{ℕ, _*_, _≤_, _^_}
 use native.Mathlib.Omega.{arith}
 use native.Mathlib.Nat.{mul-le-mul, mul-one}
 use lib.Dec.{leb}
@@ -15,7 +15,7 @@ use Rattle.std.proofs.shelf.Ways.{tells}
 use Rattle.refusal.specs.Replies.{Reply, given, declined}
 use Rattle.question.specs.declared.steps.Step.{Step}
 use Rattle.question.proofs.Questions.{and-left, and-right}
-use Rattle.belief.specs.Sheets.{sumOf, plus}
+use Rattle.belief.specs.Sheets.{plus}
 use Rattle.belief.proofs.Sums.{plus-mono, over-mono}
 use Rattle.ranges.specs.declared.shapes.Side.{Side}
 use Rattle.ranges.specs.declared.shapes.WeightedBox.{WeightedBox}
@@ -29,9 +29,9 @@ use Rattle.ranges.proofs.Changes.{leaned-is, leaned-fits, leaned-disjoint}
 use Rattle.boxes.specs.declared.holding.Boxes.{Boxes}
 use Rattle.boxes.specs.declared.lists.BoxList.{BoxList}
 use Rattle.boxes.specs.declared.takers.Press.{Press}
-use Rattle.boxes.specs.Spans.{zeroOutside, spanOnly}
+use Rattle.boxes.specs.Spans.{spanOnly}
 use Rattle.boxes.specs.Holding.{most-boxes, weightIn, boxed, held, meaning, between, goodEdges, goodFactor, room, leaning, Leaned}
-use Rattle.boxes.specs.Takers.{capped, listed, put, cappedPiece, pressed, Holds}
+use Rattle.boxes.specs.Takers.{capped, listed, cappedPiece, pressed, Holds}
 use Rattle.boxes.proofs.Gathers.{puts-hold, press-all}
 use Rattle.boxes.proofs.Meanings.{Tested, sound-made}
 use Rattle.boxes.proofs.Returns.{parts-of}

@@ -1,8 +1,8 @@
 -- What making boxes gives.
 use mathlib.Core.Path.{_≡_, refl, sym, ap, _∙_}
-use mathlib.Core.Bool.{Bool, true, false, cond, not, _&&_}
+use mathlib.Core.Bool.{true, false, cond}
 use mathlib.Core.List.{List, [], _∷_}
-use Prim.Native.Nat.{ℕ, zero, suc, _+_, _-_, _*_, _≤_, _<_, _^_}
+use Prim.Native.Nat.{ℕ, zero, suc, _+_, _-_, _≤_, _<_, _^_}
 use native.Mathlib.Omega.{arith}
 use native.Mathlib.Nat.{mul-one}
 use lib.Dec.{leb, eqb}
@@ -12,16 +12,15 @@ use Rattle.std.proofs.shelf.Tests.{and-from}
 use Rattle.std.specs.declared.option.Option.the-variants.{None}
 use Rattle.refusal.specs.Replies.{Reply, given, declined}
 use Rattle.question.proofs.Questions.{and-left, and-right}
-use Rattle.belief.specs.Sheets.{overSheets, upTo, allOf, both}
+use Rattle.belief.specs.Sheets.{upTo, allOf, both}
 use Rattle.belief.specs.Meaning.{Meaning}
 use Rattle.belief.proofs.Sums.{upTo-cong}
-use Rattle.ranges.specs.declared.shapes.Side.{Side}
 use Rattle.ranges.specs.declared.shapes.WeightedBox.{WeightedBox}
 use Rattle.ranges.specs.Boxes.{within, inside, fits, width, volume, entire, overBoxes, weightAt, totalIn, fitAll, apartAll, disjoint}
 use Rattle.ranges.proofs.Weights.{volume-pos}
 use Rattle.boxes.specs.declared.holding.Boxes.{Boxes}
 use Rattle.boxes.specs.declared.lists.BoxList.{BoxList}
-use Rattle.boxes.specs.Spans.{goodSpan, zeroOutside, spanOnly}
+use Rattle.boxes.specs.Spans.{goodSpan, zeroOutside}
 use Rattle.boxes.specs.Holding.{most-boxes, weightIn, soundIn, boxed, held, meaning, single, making, Fresh, Blank}
 use Rattle.boxes.specs.Takers.{listed, put, Holds}
 use Rattle.boxes.proofs.Fours.{four-entire, four-volume, products}

@@ -1,11 +1,11 @@
 -- Four bytes with 0 outside a span.
 use mathlib.Core.Path.{_≡_, refl, sym, ap, _∙_}
-use mathlib.Core.Bool.{Bool, true, false, cond, _&&_, _||_}
+use mathlib.Core.Bool.{Bool, true, false, cond, _||_}
 use mathlib.Core.List.{List, [], _∷_}
-use mathlib.Core.Logic.{_⊎_, inl, inr}
+use mathlib.Core.Logic.{inl, inr}
 use Prim.Native.Nat.{ℕ, zero, suc, _+_, _≤_, _<_}
 use native.Mathlib.Omega.{arith}
-use lib.Dec.{leb, ltb, eqb}
+use lib.Dec.{eqb}
 use lib.ListN.{getD, length}
 use borrow.Author.Tests.{eqb-true}
 use Rattle.std.proofs.shelf.Lists.{getD-past}
@@ -16,10 +16,6 @@ use Rattle.belief.specs.Sheets.{upTo, overSheets}
 use Rattle.belief.specs.Meaning.{Agree}
 use Rattle.boxes.specs.Spans.{zeroOutside, spanValue, spanOnly}
 use Rattle.boxes.proofs.Fours.{fours}
-
-pub span-length : (f c : ℕ) (s : List ℕ) → length (spanOnly f c s) ≡ 4
-unfolding spanOnly
-span-length f c s = refl
 
 -- a field of the span lies below its end
 pub in-below : (f c k : ℕ) → inSpan f c k ≡ true → k < f + c

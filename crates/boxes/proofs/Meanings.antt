@@ -1,21 +1,21 @@
 -- What sound boxes mean: their laws, and what revising makes of them.
 use mathlib.Core.Path.{_≡_, refl, sym, ap, _∙_}
-use mathlib.Core.Bool.{Bool, true, false, cond, not, _&&_}
+use mathlib.Core.Bool.{Bool, true, false, cond, _&&_}
 use mathlib.Core.List.{List, [], _∷_}
-use mathlib.Core.Logic.{_⊎_, inl, inr}
-use Prim.Native.Nat.{ℕ, zero, suc, _+_, _*_, _≤_, _<_, _^_, max}
+use mathlib.Core.Logic.{inl, inr}
+use Prim.Native.Nat.{ℕ, zero, suc, _+_, _≤_, _<_, _^_, max}
 use native.Mathlib.Omega.{arith}
-use lib.Dec.{leb, ltb, eqb}
+use lib.Dec.{leb, eqb}
 use lib.ListN.{getD, length}
 use borrow.Author.Tests.{leb-true, le-leb, ne-eqb}
 use Rattle.std.specs.shelf.Lists.{kept-by}
 use Rattle.std.proofs.shelf.Tests.{and-from, cases-lt}
 use Rattle.question.specs.Expressions.{greatest}
 use Rattle.question.specs.Steps.{step}
-use Rattle.question.specs.Questions.{answers, isStepped, stepsOf, readsIn, inSpan, allBelow}
-use Rattle.question.proofs.Questions.{and-left, and-right, impossible, answers-small, answers-span, step-stepped, step-inside, below-at, all-below}
-use Rattle.belief.specs.Sheets.{overSheets, sumOf, maxOf, allOf, plus, both}
-use Rattle.belief.specs.Meaning.{Meaning, Asked, Laws, Agree, kept, totalOf, peakOf, wholeOf, massOf, heaviestOf, revised}
+use Rattle.question.specs.Questions.{answers, isStepped, stepsOf, readsIn, inSpan}
+use Rattle.question.proofs.Questions.{and-left, and-right, answers-small, answers-span, step-stepped, step-inside, below-at, all-below}
+use Rattle.belief.specs.Sheets.{sumOf, maxOf, allOf, plus, both}
+use Rattle.belief.specs.Meaning.{Laws, kept, totalOf, peakOf, wholeOf, massOf, heaviestOf, revised}
 use Rattle.belief.proofs.Sums.{over-cong, mass-total}
 use Rattle.belief.proofs.Revisings.{ext, same}
 use Rattle.ranges.specs.declared.shapes.Side.{Side}
@@ -29,7 +29,7 @@ use Rattle.ranges.proofs.Changes.{revised-is, revised-fits, revised-disjoint}
 use Rattle.ranges.proofs.Simple.{simple-few}
 use Rattle.boxes.specs.Spans.{goodSpan, zeroOutside, spanOnly}
 use Rattle.boxes.specs.Holding.{most-boxes, weightIn, goodBoxes, soundIn, carried, after, boxed}
-use Rattle.boxes.proofs.Masks.{span-length, in-below, span-agree, span-same, zero-at, over-span}
+use Rattle.boxes.proofs.Masks.{in-below, span-agree, span-same, zero-at, over-span}
 
 -- ---- what soundness tests
 

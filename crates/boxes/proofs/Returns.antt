@@ -1,8 +1,8 @@
 -- What boxes return as a belief.
-use mathlib.Core.Path.{_≡_, refl, sym, ap, _∙_}
-use mathlib.Core.Bool.{Bool, true, false, cond, not, _&&_}
-use mathlib.Core.List.{List, [], _∷_}
-use Prim.Native.Nat.{ℕ, _+_, _≤_, _<_, _^_, min}
+use mathlib.Core.Path.{_≡_, sym, ap, _∙_}
+use mathlib.Core.Bool.{Bool, true, false, _&&_}
+use mathlib.Core.List.{List, []}
+use Prim.Native.Nat.{ℕ, _≤_, _^_}
 use native.Mathlib.Omega.{arith}
 use lib.Dec.{leb, eqb}
 use lib.ListN.{length, take, length-take}
@@ -15,7 +15,7 @@ use Rattle.question.specs.Reading.{reading}
 use Rattle.question.specs.Questions.{isStepped}
 use Rattle.question.specs.Texts.{text}
 use Rattle.question.proofs.Questions.{read-text, read-as}
-use Rattle.belief.specs.Meaning.{Meaning, totalOf, peakOf, wholeOf, massOf, heaviestOf, revised}
+use Rattle.belief.specs.Meaning.{totalOf, peakOf, wholeOf, massOf, heaviestOf, revised}
 use Rattle.belief.specs.Calls.{carrying, replied, revising}
 use Rattle.belief.proofs.Replies.{carrying-is, replied-ok, replied-not, revising-not, revising-none, revising-ok}
 use Rattle.ranges.specs.declared.shapes.WeightedBox.{WeightedBox}
@@ -27,7 +27,7 @@ use Rattle.boxes.specs.declared.takers.Tally.{Tally}
 use Rattle.boxes.specs.Spans.{spanOnly}
 use Rattle.boxes.specs.Holding.{most-boxes, weightIn, goodBoxes, carried, boxed, held, meaning}
 use Rattle.boxes.specs.Takers.{capped, listed, Weighed, Holds}
-use Rattle.boxes.proofs.Meanings.{Tested, sound-parts, sound-made, carries-now, carried-stepped, carried-few, total-of, peak-of, whole-of, mass-of, heaviest-of, mass-most, revised-boxes}
+use Rattle.boxes.proofs.Meanings.{Tested, sound-parts, carries-now, carried-stepped, carried-few, total-of, peak-of, whole-of, mass-of, heaviest-of, mass-most, revised-boxes}
 
 few-held : (b : Boxes) → length (held b) ≤ most-boxes
 unfolding held

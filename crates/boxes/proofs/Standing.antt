@@ -1,23 +1,20 @@
 -- The laws of the definitions.
-use mathlib.Core.Path.{_≡_, refl, sym, ap, _∙_}
-use mathlib.Core.Bool.{Bool, true, false, _||_, _&&_}
+use mathlib.Core.Path.{_≡_, refl}
+use mathlib.Core.Bool.{true, false}
 use mathlib.Core.List.{List, [], _∷_}
-use mathlib.Core.Logic.{_⊎_, inl, inr}
-use Prim.Native.Nat.{ℕ, _+_, _≤_, _<_, _^_}
+use mathlib.Core.Logic.{inl, inr}
+use Prim.Native.Nat.{ℕ, _≤_}
 use native.Mathlib.Omega.{arith}
-use lib.Dec.{leb, eqb}
-use lib.ListN.{length, getD}
+use lib.ListN.{getD}
 use borrow.Author.Tests.{eq-eqb, le-leb}
-use Rattle.std.specs.Orderings.{Decides}
 use Rattle.std.specs.shelf.Lists.{All}
 use Rattle.std.proofs.shelf.Tests.{and-from, or-left, or-right, cases-bool}
 use Rattle.question.specs.Questions.{inSpan}
 use Rattle.question.proofs.Questions.{all-below}
-use Rattle.belief.specs.Sheets.{sumOf}
 use Rattle.belief.specs.Meaning.{totalOf, peakOf}
 use Rattle.ranges.specs.declared.shapes.WeightedBox.{WeightedBox}
-use Rattle.ranges.specs.Boxes.{inside, within, fits, width, volume, corner, entire, overBoxes, weightAt, totalIn, fitAll, disjoint}
-use Rattle.ranges.specs.Pieces.{cuts, lower, upper, pieces, cut, cutAll}
+use Rattle.ranges.specs.Boxes.{inside, within, fits, corner, entire, overBoxes, weightAt, fitAll}
+use Rattle.ranges.specs.Pieces.{cuts, withSide, pieces, cut, cutAll}
 use Rattle.ranges.specs.Changes.{edges, leanedPiece, leanedBoxes}
 use Rattle.ranges.proofs.Folds.{fit}
 use Rattle.ranges.proofs.Pieces.{fits-length}
@@ -28,10 +25,10 @@ use Rattle.boxes.specs.Spans.{zeroOutside, spanValue, spanOnly}
 use Rattle.boxes.specs.Holding.{weightIn, soundIn, between}
 use Rattle.boxes.specs.Laws.{Hold, cases, Combined, Sorts, OneAnswer, Sound, Soundness}
 use Rattle.boxes.proofs.Masks.{zero-at}
-use Rattle.boxes.proofs.Meanings.{Tested, sound-parts, sound-made, summed}
+use Rattle.boxes.proofs.Meanings.{sound-parts, sound-made, summed}
 
 pub hold : Hold cases
-unfolding leanedBoxes leanedPiece edges cutAll cut pieces cuts lower upper between entire corner inside within totalOf peakOf weightIn weightAt overBoxes spanOnly spanValue inSpan
+unfolding leanedBoxes leanedPiece edges cutAll cut pieces cuts withSide between entire corner inside within totalOf peakOf weightIn weightAt overBoxes spanOnly spanValue inSpan
 hold = (refl, refl, refl, tt)
 
 pub combined : Combined

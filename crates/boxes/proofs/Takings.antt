@@ -1,11 +1,10 @@
 -- What takers make of one piece, and of many.
-use mathlib.Core.Path.{_≡_, refl, sym, ap, _∙_}
+use mathlib.Core.Path.{_≡_, sym, ap, _∙_}
 use mathlib.Core.Bool.{Bool, true, false, cond}
-use mathlib.Core.List.{List, [], _∷_, _++_, map}
-use Prim.Native.Nat.{ℕ, suc, _+_, _-_, _*_, _≤_, _<_, _^_, min, max}
-use native.Mathlib.Omega.{arith}
+use mathlib.Core.List.{List}
+use Prim.Native.Nat.{ℕ, _+_, _-_, _*_, _≤_, _<_, min, max}
 use lib.Dec.{eqb, ltb}
-use lib.ListN.{getD, set, length}
+use lib.ListN.{getD, set}
 use borrow.Author.Tests.{lt-ltb, le-ltb}
 use Rattle.question.specs.declared.checked.Question.{Question}
 use Rattle.question.specs.Questions.{answers}
@@ -14,8 +13,6 @@ use Rattle.ranges.specs.declared.shapes.Side.{Side}
 use Rattle.ranges.specs.declared.shapes.WeightedBox.{WeightedBox}
 use Rattle.ranges.specs.Boxes.{inside, volume, corner}
 use Rattle.boxes.specs.declared.lists.BoxList.{BoxList}
-use Rattle.boxes.specs.declared.takers.Tally.{Tally}
-use Rattle.boxes.specs.declared.takers.Sieve.{Sieve}
 use Rattle.boxes.specs.Holding.{most-boxes}
 use Rattle.boxes.specs.Takers.{capped, put, answerOf, counted, tallied, sifted, cappedPiece}
 

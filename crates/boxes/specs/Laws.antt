@@ -1,5 +1,5 @@
 -- What the definitions of boxes promise, in words of sheets, steps and answers. Assumes nothing.
-use mathlib.Core.Bool.{Bool, true, false, cond}
+use mathlib.Core.Bool.{true, false, cond}
 use mathlib.Core.List.{List, [], _∷_}
 use mathlib.Core.Path.{_≡_}
 use Prim.Native.Nat.{ℕ, _+_, _≤_, _<_, _^_}
@@ -10,7 +10,7 @@ use Rattle.question.specs.declared.steps.Step.{Step}
 use Rattle.question.specs.Steps.{Agree}
 use Rattle.question.specs.Questions.{answers, isStepped, stepsOf, inSpan}
 use Rattle.belief.specs.Sheets.{sumOf}
-use Rattle.belief.specs.Meaning.{Meaning, totalOf, peakOf}
+use Rattle.belief.specs.Meaning.{totalOf, peakOf}
 use Rattle.ranges.specs.declared.shapes.Side.{Side}
 use Rattle.ranges.specs.declared.shapes.WeightedBox.{WeightedBox}
 use Rattle.ranges.specs.Boxes.{inside, fits, corner, coverAt, fitAll}

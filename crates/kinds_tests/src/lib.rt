@@ -75,7 +75,9 @@ mod tests {
 
     #[test]
     fn weighs() -> Result<(), Fail> {
-        let pair = sample().ok().ok_or(4u8)?;
+        let Ok(pair) = sample() else {
+            return Err(Fail::new("the pair is refused"));
+        };
         check_eq(pair.total(), 12)?;
         check_eq(pair.peak(), 4)?;
         check_eq(pair.mass(b"<f\x01c\x00\x02", 1).ok(), Some(6))?;
@@ -85,11 +87,13 @@ mod tests {
     // Field 0 < field 1 is a question of neither side, but one of a table over both fields.
     #[test]
     fn across() -> Result<(), Fail> {
-        let pair = sample().ok().ok_or(4u8)?;
+        let Ok(pair) = sample() else {
+            return Err(Fail::new("the pair is refused"));
+        };
         check_eq(refused(pair.mass(b"<f\x00f\x01", 1)), 12)?;
-        let table = Table::make(0, 2, [1, 2, 0, 0], &[1, 1, 2, 2, 2, 4])
-            .ok()
-            .ok_or(3u8)?;
+        let Ok(table) = Table::make(0, 2, [1, 2, 0, 0], &[1, 1, 2, 2, 2, 4]) else {
+            return Err(Fail::new("the table is refused"));
+        };
         check_eq(table.mass(b"<f\x00f\x01", 1).ok(), Some(7))
     }
 }

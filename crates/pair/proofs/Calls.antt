@@ -13,7 +13,7 @@ use Rattle.pair.proofs.Folds.{Parts, pair-total, pair-peak, pair-whole, mass-l
 use Rattle.pair.proofs.Laws.{pair-laws}
 use Rattle.pair.proofs.Revisings.{by-left, by-right}
 
--- a product by saturating_mul
+-- a product that stops at the greatest number of 64 bits
 abbrev capped : ℕ → ℕ
 capped n = min n 18446744073709551615
 

@@ -1,6 +1,7 @@
 // A pair as a belief.
 ghost use mathlib.Core.Path.{_≡_};
 ghost use mathlib.Core.Bool.{true};
+ghost use Prim.Native.Nat.{_*_, min};
 ghost use Rattle.question.specs.Texts.{text};
 ghost use Rattle.pair.specs.Pairs.{paired, within};
 use crate::joint::Pair;
@@ -48,11 +49,11 @@ pub impl<L: Belief, R: Belief> Belief for Pair<L, R> as PairBelief {
     }
 
     fn total(&self) -> u64 {
-        self.left.total().saturating_mul(self.right.total())
+        product(self.left.total(), self.right.total())
     }
 
     fn peak(&self) -> u64 {
-        self.left.peak().saturating_mul(self.right.peak())
+        product(self.left.peak(), self.right.peak())
     }
 
     fn whole(&self) -> bool {
@@ -60,9 +61,7 @@ pub impl<L: Belief, R: Belief> Belief for Pair<L, R> as PairBelief {
     }
 
     fn weight(&self, sheet: [u8; 4]) -> u64 {
-        self.left
-            .weight(sheet)
-            .saturating_mul(self.right.weight(sheet))
+        product(self.left.weight(sheet), self.right.weight(sheet))
     }
 
     fn carries(&self, question: &[u8]) -> Result<bool, Refusal> {
@@ -80,11 +79,11 @@ pub impl<L: Belief, R: Belief> Belief for Pair<L, R> as PairBelief {
         let asked = Question::read(question)?;
         if reads_only(&self.left, &asked) {
             let share = self.left.mass(question, answer)?;
-            return Ok(share.saturating_mul(self.right.total()));
+            return Ok(product(share, self.right.total()));
         }
         if reads_only(&self.right, &asked) {
             let part = self.right.mass(question, answer)?;
-            return Ok(self.left.total().saturating_mul(part));
+            return Ok(product(self.left.total(), part));
         }
         Err(Refusal::NotCarried)
     }
@@ -93,11 +92,11 @@ pub impl<L: Belief, R: Belief> Belief for Pair<L, R> as PairBelief {
         let asked = Question::read(question)?;
         if reads_only(&self.left, &asked) {
             let share = self.left.heaviest(question, answer)?;
-            return Ok(share.saturating_mul(self.right.peak()));
+            return Ok(product(share, self.right.peak()));
         }
         if reads_only(&self.right, &asked) {
             let part = self.right.heaviest(question, answer)?;
-            return Ok(self.left.peak().saturating_mul(part));
+            return Ok(product(self.left.peak(), part));
         }
         Err(Refusal::NotCarried)
     }
@@ -112,6 +111,13 @@ pub impl<L: Belief, R: Belief> Belief for Pair<L, R> as PairBelief {
         }
         Err(Refusal::NotCarried)
     }
+}
+
+// The product of two weights or totals, which is exact where the pair is sound.
+fn product(left: u64, right: u64) -> u64
+    ensures { λ r. ⌜ r ≡ min (left * right) 18446744073709551615 ⌝ }
+{
+    left.saturating_mul(right)
 }
 
 // Whether all fields that a question reads are those of a sound belief.

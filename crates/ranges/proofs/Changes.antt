@@ -1,18 +1,17 @@
 -- What revising and leaning do to the weights, and what they keep.
 use mathlib.Core.Path.{_≡_, refl, sym, ap, _∙_}
-use mathlib.Core.Bool.{Bool, true, false, cond, not, _&&_, _||_}
-use mathlib.Core.List.{List, [], _∷_, _++_, map}
-use Prim.Native.Nat.{ℕ, zero, suc, _+_, _-_, _*_, _≤_, _<_, max}
+use mathlib.Core.Bool.{Bool, true, false, cond, _&&_}
+use mathlib.Core.List.{List, [], _∷_, map}
+use Prim.Native.Nat.{ℕ, suc, _+_, _-_, _*_, _≤_}
 use native.Mathlib.Omega.{arith}
 use native.Mathlib.Nat.{add-mul, zero-mul, mul-le-mul}
 use lib.ListN.{getD, length, drop}
 use lib.Seq.{drop-cons}
-use lib.Dec.{leb, ltb, eqb}
+use lib.Dec.{ltb, eqb}
 use Rattle.std.specs.shelf.Lists.{kept-by}
-use Rattle.question.specs.declared.steps.Step.{Step}
 use Rattle.question.specs.Steps.{Agree}
 use Rattle.question.specs.Questions.{answers, isStepped, stepsOf}
-use Rattle.question.proofs.Questions.{and-left, and-right, answers-agree, steps-four}
+use Rattle.question.proofs.Questions.{and-right, answers-agree, steps-four}
 use Rattle.belief.specs.Sheets.{plus}
 use Rattle.belief.specs.Meaning.{kept}
 use Rattle.ranges.specs.declared.shapes.Side.{Side}

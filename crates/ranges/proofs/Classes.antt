@@ -2,10 +2,9 @@
 use mathlib.Core.Path.{_≡_, refl, sym, ap, _∙_}
 use mathlib.Core.Bool.{Bool, true, false, cond, not, _&&_}
 use mathlib.Core.List.{List, [], _∷_, _++_, map}
-use Prim.Native.Nat.{ℕ, _+_, _<_}
+use Prim.Native.Nat.{ℕ, _+_}
 use native.Mathlib.Omega.{arith}
-use lib.Dec.{ltb}
-use lib.ListN.{getD, length}
+use lib.ListN.{length}
 use Rattle.std.specs.shelf.Lists.{All}
 use Rattle.std.proofs.shelf.Elements.{all-append, all-weaker, all-map}
 use Rattle.std.proofs.shelf.Tests.{not-true}
@@ -19,8 +18,8 @@ use Rattle.ranges.specs.declared.shapes.WeightedBox.{WeightedBox}
 use Rattle.ranges.specs.Boxes.{inside, fits, corner, overBoxes, fitAll}
 use Rattle.ranges.specs.Pieces.{cuts, lower, upper, pieces, cut, cutAll}
 use Rattle.ranges.specs.Combinations.{times}
-use Rattle.ranges.proofs.Folds.{never, fit}
-use Rattle.ranges.proofs.Cuts.{in-lower, in-upper, length-lower, length-upper, fits-lower, fits-upper, corner-inside, uncut}
+use Rattle.ranges.proofs.Folds.{fit}
+use Rattle.ranges.proofs.Cuts.{in-lower, in-upper, length-part, fits-lower, fits-upper, corner-inside, uncut}
 use Rattle.ranges.proofs.Pieces.{Fielded, part, fits-length, at-cut, got}
 
 -- what holds of the pieces of both parts, or of the uncut box, holds of all pieces
@@ -70,11 +69,11 @@ pieces-agree (t ∷ ts) xs fl =
     (λ c. all-weaker (λ p. Within l p × Agrees ts p) (Agrees (t ∷ ts)) (λ p h s u i j.
     let a = and-right (inside xs s) _ (sym (in-lower xs (t .field) (t .bound) s c) ∙ h .0 s i) in
     let b = and-right (inside xs u) _ (sym (in-lower xs (t .field) (t .bound) u c) ∙ h .0 u j) in (a ∙ sym b, h .1 s u i j))
-    (pieces ts l) (both (Within l) (Agrees ts) (pieces ts l) (pieces-inside ts l) (pieces-agree ts l (rw length-lower (fl .1)))))
+    (pieces ts l) (both (Within l) (Agrees ts) (pieces ts l) (pieces-inside ts l) (pieces-agree ts l (rw length-part (fl .1)))))
     (λ c. all-weaker (λ p. Within r p × Agrees ts p) (Agrees (t ∷ ts)) (λ p h s u i j.
     let a = not-true _ (and-right (inside xs s) _ (sym (in-upper xs (t .field) (t .bound) s c) ∙ h .0 s i)) in
     let b = not-true _ (and-right (inside xs u) _ (sym (in-upper xs (t .field) (t .bound) u c) ∙ h .0 u j)) in (a ∙ sym b, h .1 s u i j))
-    (pieces ts r) (both (Within r) (Agrees ts) (pieces ts r) (pieces-inside ts r) (pieces-agree ts r (rw length-upper (fl .1)))))
+    (pieces ts r) (both (Within r) (Agrees ts) (pieces ts r) (pieces-inside ts r) (pieces-agree ts r (rw length-part (fl .1)))))
     (λ c. all-weaker (λ p. Within xs p × Agrees ts p) (Agrees (t ∷ ts)) (λ p h s u i j. (uncut xs (t .field) (t .bound) s u c (fl .0) (h .0 s i) (h .0 u j), h .1 s u i j))
     (pieces ts xs) (both (Within xs) (Agrees ts) (pieces ts xs) (pieces-inside ts xs) (pieces-agree ts xs (fl .1))))
 

@@ -2,13 +2,13 @@
 use mathlib.Core.Path.{_≡_, refl, sym, ap, _∙_}
 use mathlib.Core.Bool.{Bool, true, false, cond, _&&_}
 use mathlib.Core.List.{List, [], _∷_, _++_}
-use Prim.Native.Nat.{ℕ, zero, suc, _+_, _<_}
+use Prim.Native.Nat.{ℕ, zero, suc, _+_}
 use native.Mathlib.Omega.{arith}
 use lib.Dec.{eqb}
 use borrow.Author.Tests.{eqb-true, eq-eqb}
 use Rattle.question.specs.declared.steps.Step.{Step}
 use Rattle.ranges.specs.declared.shapes.Side.{Side}
-use Rattle.ranges.specs.Pieces.{cutsSide, below, above, cuts, lower, upper, pieces}
+use Rattle.ranges.specs.Pieces.{cutsSide, below, above, cuts, withSide, lower, upper, pieces}
 use Rattle.ranges.specs.Combinations.{segments, before, eachBefore, combined, times, Same}
 use Rattle.ranges.proofs.Folds.{never}
 
@@ -69,7 +69,7 @@ step-none t qs k (x ∷ xs) h =
 -- a step that cuts side m from field k on
 step-parts : (t : Step) (qs : List Step) (k m : ℕ) (xs : List Side) → t .field ≡ k + m → cuts xs m (t .bound) ≡ true →
     Same (combined (t ∷ qs) k xs) (combined qs k (lower xs m (t .bound)) ++ combined qs k (upper xs m (t .bound)))
-unfolding combined cuts lower upper
+unfolding combined cuts withSide
 step-parts t qs k m [] e c p = never c
 step-parts t qs k zero (x ∷ xs) e c p =
     let l : Side = below x (t .bound) in

@@ -1,13 +1,13 @@
 -- Boxes that are apart hold no sheet in common, and their pieces stay apart and within the tops.
-use mathlib.Core.Path.{_≡_, refl, sym, ap, _∙_}
-use mathlib.Core.Bool.{Bool, true, false, cond, not, _&&_, _||_}
+use mathlib.Core.Path.{_≡_, refl, ap, _∙_}
+use mathlib.Core.Bool.{Bool, true, false, cond, _&&_, _||_}
 use mathlib.Core.List.{List, [], _∷_, _++_, map}
-use Prim.Native.Nat.{ℕ, zero, suc, _+_, _-_, _*_, _≤_, _<_, max}
+use Prim.Native.Nat.{ℕ, _+_, _-_, _≤_, max}
 use native.Mathlib.Omega.{arith}
 use lib.ListN.{length}
 use lib.Dec.{leb, ltb}
 use borrow.Author.Tests.{le-leb}
-use Rattle.std.proofs.shelf.Tests.{and-from, or-parts, both-ways}
+use Rattle.std.proofs.shelf.Tests.{and-from, or-parts}
 use Rattle.std.specs.shelf.Lists.{All, kept-by}
 use Rattle.std.proofs.shelf.Elements.{all-append, all-map}
 use Rattle.question.specs.declared.steps.Step.{Step}
@@ -15,8 +15,8 @@ use Rattle.question.proofs.Questions.{and-left, and-right}
 use Rattle.belief.specs.Sheets.{plus}
 use Rattle.ranges.specs.declared.shapes.Side.{Side}
 use Rattle.ranges.specs.declared.shapes.WeightedBox.{WeightedBox}
-use Rattle.ranges.specs.Boxes.{within, inside, fits, overBoxes, coverAt, weightAt, fitAll, apart, apartAll, disjoint}
-use Rattle.ranges.specs.Pieces.{cuts, lower, upper, pieces, cut, cutAll}
+use Rattle.ranges.specs.Boxes.{within, inside, fits, overBoxes, coverAt, fitAll, apart, apartAll, disjoint}
+use Rattle.ranges.specs.Pieces.{cuts, pieces, cut, cutAll}
 use Rattle.ranges.proofs.Folds.{never, fitting, fit}
 use Rattle.ranges.proofs.Cuts.{fits-lower, fits-upper}
 use Rattle.ranges.proofs.Pieces.{Fielded, part, cut-none, cut-parts, cut-whole, at-pieces}

@@ -1,8 +1,8 @@
 -- What a cut does to a box.
-use mathlib.Core.Path.{_≡_, refl, sym, ap, _∙_}
-use mathlib.Core.Bool.{Bool, true, false, cond, not, _&&_, _||_}
-use mathlib.Core.List.{List, [], _∷_, _++_}
-use Prim.Native.Nat.{ℕ, zero, suc, _+_, _-_, _*_, _≤_, _<_}
+use mathlib.Core.Path.{_≡_, refl, ap, _∙_}
+use mathlib.Core.Bool.{Bool, true, false, not, _&&_}
+use mathlib.Core.List.{List, [], _∷_}
+use Prim.Native.Nat.{ℕ, zero, suc, _-_, _≤_, _<_}
 use native.Mathlib.Omega.{arith}
 use lib.ListN.{getD, length}
 use lib.Dec.{leb, ltb}
@@ -11,7 +11,7 @@ use Rattle.std.proofs.shelf.Tests.{and-from}
 use Rattle.question.proofs.Questions.{and-left, and-right}
 use Rattle.ranges.specs.declared.shapes.Side.{Side}
 use Rattle.ranges.specs.Boxes.{within, inside, fits, corner}
-use Rattle.ranges.specs.Pieces.{cutsSide, below, above, cuts, lower, upper}
+use Rattle.ranges.specs.Pieces.{cutsSide, below, above, cuts, withSide, lower, upper}
 use Rattle.ranges.proofs.Folds.{never, fitting}
 
 low-part : (x : Side) (v u : ℕ) (b : Bool) → cutsSide x v ≡ true → (within (below x v) u && b) ≡ ((within x u && b) && ltb u v)
@@ -26,59 +26,55 @@ and-assoc : (a b c : Bool) → (a && (b && c)) ≡ ((a && b) && c)
 and-assoc true b c = refl
 and-assoc false b c = refl
 
+-- a part of a cut box has the sheets of which h says so
+in-part : (g : Side → Side) (h : ℕ → Bool) (v : ℕ) → ((x : Side) (u : ℕ) (b : Bool) → cutsSide x v ≡ true → (within (g x) u && b) ≡ ((within x u && b) && h u)) →
+    (xs : List Side) (k : ℕ) (s : List ℕ) → cuts xs k v ≡ true → inside (withSide g xs k) s ≡ (inside xs s && h (getD s k 0))
+unfolding cuts inside withSide
+in-part g h v base [] k s c = never c
+in-part g h v base (x ∷ xs) zero [] c = refl
+in-part g h v base (x ∷ xs) zero (u ∷ s) c = base x u (inside xs s) c
+in-part g h v base (x ∷ xs) (suc k) [] c = refl
+in-part g h v base (x ∷ xs) (suc k) (u ∷ s) c = ap (λ b. within x u && b) (in-part g h v base xs k s c) ∙ and-assoc (within x u) (inside xs s) (h (getD s k 0))
+
 -- the lower part has the sheets whose field k is less than v, the upper part the others
 pub in-lower : (xs : List Side) (k v : ℕ) (s : List ℕ) → cuts xs k v ≡ true → inside (lower xs k v) s ≡ (inside xs s && ltb (getD s k 0) v)
-unfolding cuts inside lower
-in-lower [] k v s h = never h
-in-lower (x ∷ xs) zero v [] h = refl
-in-lower (x ∷ xs) zero v (u ∷ s) h = low-part x v u (inside xs s) h
-in-lower (x ∷ xs) (suc k) v [] h = refl
-in-lower (x ∷ xs) (suc k) v (u ∷ s) h = ap (λ b. within x u && b) (in-lower xs k v s h) ∙ and-assoc (within x u) (inside xs s) (ltb (getD s k 0) v)
+in-lower xs k v s c = in-part (λ x. below x v) (λ u. ltb u v) v (λ x u b. low-part x v u b) xs k s c
 
 pub in-upper : (xs : List Side) (k v : ℕ) (s : List ℕ) → cuts xs k v ≡ true → inside (upper xs k v) s ≡ (inside xs s && not (ltb (getD s k 0) v))
-unfolding cuts inside upper
-in-upper [] k v s h = never h
-in-upper (x ∷ xs) zero v [] h = refl
-in-upper (x ∷ xs) zero v (u ∷ s) h = high-part x v u (inside xs s) h
-in-upper (x ∷ xs) (suc k) v [] h = refl
-in-upper (x ∷ xs) (suc k) v (u ∷ s) h = ap (λ b. within x u && b) (in-upper xs k v s h) ∙ and-assoc (within x u) (inside xs s) (not (ltb (getD s k 0) v))
+in-upper xs k v s c = in-part (λ x. above x v) (λ u. not (ltb u v)) v (λ x u b. high-part x v u b) xs k s c
 
-pub length-lower : (xs : List Side) (k v : ℕ) → length (lower xs k v) ≡ length xs
-unfolding lower
-length-lower [] k v = refl
-length-lower (x ∷ xs) zero v = refl
-length-lower (x ∷ xs) (suc k) v = ap suc (length-lower xs k v)
-
-pub length-upper : (xs : List Side) (k v : ℕ) → length (upper xs k v) ≡ length xs
-unfolding upper
-length-upper [] k v = refl
-length-upper (x ∷ xs) zero v = refl
-length-upper (x ∷ xs) (suc k) v = ap suc (length-upper xs k v)
+pub length-part : (g : Side → Side) (xs : List Side) (k : ℕ) → length (withSide g xs k) ≡ length xs
+unfolding withSide
+length-part g [] k = refl
+length-part g (x ∷ xs) zero = refl
+length-part g (x ∷ xs) (suc k) = ap suc (length-part g xs k)
 
 -- both parts fit
 fits-make : (x : Side) (t : ℕ) (b : Bool) → x .low ≤ x .high → x .high ≤ t → b ≡ true → (leb (x .low) (x .high) && (leb (x .high) t && b)) ≡ true
 fits-make x t b l h e = and-from _ _ (le-leb _ _ l) (and-from _ _ (le-leb _ _ h) e)
 
-pub fits-lower : (xs : List Side) (ts : List ℕ) (k v : ℕ) → cuts xs k v ≡ true → fits ts xs ≡ true → fits ts (lower xs k v) ≡ true
-unfolding cuts lower fits
-fits-lower [] ts k v c h = never c
-fits-lower (x ∷ xs) [] k v c h = never h
-fits-lower (x ∷ xs) (t ∷ ts) zero v c h =
+-- a part of a side is not empty, and does not pass it
+record Narrows (g : Side → Side) (v : ℕ) : Type 0 where
+  order : (x : Side) → x .low < v → v ≤ x .high → g x .low ≤ g x .high
+  under : (x : Side) → v ≤ x .high → g x .high ≤ x .high
+
+fits-part : (g : Side → Side) (v : ℕ) → Narrows g v → (xs : List Side) (ts : List ℕ) (k : ℕ) → cuts xs k v ≡ true → fits ts xs ≡ true → fits ts (withSide g xs k) ≡ true
+unfolding cuts withSide fits
+fits-part g v n [] ts k c h = never c
+fits-part g v n (x ∷ xs) [] k c h = never h
+fits-part g v n (x ∷ xs) (t ∷ ts) zero c h =
     let p = fitting ts t x xs h in
-    let a = ltb-true _ _ (and-left (ltb (x .low) v) _ c) in
-    let b = leb-true _ _ (and-right (ltb (x .low) v) _ c) in
     let u = p .under in
-    fits-make (below x v) t _ (omega arith) (omega arith) (p .rest)
-fits-lower (x ∷ xs) (t ∷ ts) (suc k) v c h = let p = fitting ts t x xs h in fits-make x t _ (p .order) (p .under) (fits-lower xs ts k v c (p .rest))
+    let b = leb-true _ _ (and-right (ltb (x .low) v) _ c) in
+    let w = n .under x b in
+    fits-make (g x) t _ (n .order x (ltb-true _ _ (and-left (ltb (x .low) v) _ c)) b) (omega arith) (p .rest)
+fits-part g v n (x ∷ xs) (t ∷ ts) (suc k) c h = let p = fitting ts t x xs h in fits-make x t _ (p .order) (p .under) (fits-part g v n xs ts k c (p .rest))
+
+pub fits-lower : (xs : List Side) (ts : List ℕ) (k v : ℕ) → cuts xs k v ≡ true → fits ts xs ≡ true → fits ts (lower xs k v) ≡ true
+fits-lower xs ts k v = fits-part (λ x. below x v) v (record { order = λ x a b. omega arith; under = λ x b. omega arith }) xs ts k
 
 pub fits-upper : (xs : List Side) (ts : List ℕ) (k v : ℕ) → cuts xs k v ≡ true → fits ts xs ≡ true → fits ts (upper xs k v) ≡ true
-unfolding cuts upper fits
-fits-upper [] ts k v c h = never c
-fits-upper (x ∷ xs) [] k v c h = never h
-fits-upper (x ∷ xs) (t ∷ ts) zero v c h =
-    let p = fitting ts t x xs h in
-    fits-make (above x v) t _ (leb-true _ _ (and-right (ltb (x .low) v) _ c)) (p .under) (p .rest)
-fits-upper (x ∷ xs) (t ∷ ts) (suc k) v c h = let p = fitting ts t x xs h in fits-make x t _ (p .order) (p .under) (fits-upper xs ts k v c (p .rest))
+fits-upper xs ts k v = fits-part (λ x. above x v) v (record { order = λ x a b. b; under = λ x b. omega arith }) xs ts k
 
 pub corner-inside : (xs : List Side) (ts : List ℕ) → fits ts xs ≡ true → inside xs (corner xs) ≡ true
 unfolding inside corner within fits

@@ -1,16 +1,16 @@
 -- Folds over all sheets, and over the sheets of boxes.
 use mathlib.Core.Path.{_≡_, refl, sym, ap, _∙_}
 use mathlib.Core.Bool.{Bool, true, false, cond, _&&_}
-use mathlib.Core.List.{List, [], _∷_, _++_}
+use mathlib.Core.List.{List, [], _∷_}
 use Prim.Native.Nat.{ℕ, zero, suc, _+_, _-_, _*_, _≤_, _<_, max, min}
 use native.Mathlib.Omega.{arith}
 use native.Mathlib.Nat.{add-mul, zero-mul, one-mul, mul-assoc}
 use native.Mathlib.Numerals.{add-one}
-use lib.Dec.{leb, ltb}
+use lib.Dec.{leb}
 use borrow.Author.Tests.{leb-true}
 use Rattle.question.proofs.Questions.{and-left, and-right, impossible}
 use Rattle.belief.specs.Sheets.{upTo, overSheets, plus}
-use Rattle.belief.proofs.Sums.{upTo-cong, over-cong}
+use Rattle.belief.proofs.Sums.{upTo-cong}
 use Rattle.ranges.specs.declared.shapes.Side.{Side}
 use Rattle.ranges.specs.declared.shapes.WeightedBox.{WeightedBox}
 use Rattle.ranges.specs.Boxes.{within, inside, fits, width, volume, overBoxes, fitAll}

@@ -1,8 +1,8 @@
 -- What a sheet gets from boxes is what it gets from their pieces.
 use mathlib.Core.Path.{_≡_, refl, sym, ap, _∙_}
-use mathlib.Core.Bool.{Bool, true, false, cond, not, _&&_, _||_}
+use mathlib.Core.Bool.{Bool, true, false, cond, not, _&&_}
 use mathlib.Core.List.{List, [], _∷_, _++_, map}
-use Prim.Native.Nat.{ℕ, zero, suc, _+_, _-_, _*_, _≤_, _<_, max}
+use Prim.Native.Nat.{ℕ, suc, _+_, _-_, _<_}
 use native.Mathlib.Omega.{arith}
 use lib.ListN.{getD, length}
 use lib.Dec.{leb, ltb}
@@ -18,7 +18,7 @@ use Rattle.ranges.specs.declared.shapes.WeightedBox.{WeightedBox}
 use Rattle.ranges.specs.Boxes.{inside, fits, corner, overBoxes, fitAll}
 use Rattle.ranges.specs.Pieces.{cuts, lower, upper, pieces, cut, cutAll}
 use Rattle.ranges.proofs.Folds.{never, fit}
-use Rattle.ranges.proofs.Cuts.{in-lower, in-upper, length-lower, length-upper, fits-lower, fits-upper, corner-inside, uncut}
+use Rattle.ranges.proofs.Cuts.{in-lower, in-upper, length-part, fits-lower, fits-upper, corner-inside, uncut}
 
 -- the fields of some steps lie below n
 abbrev pub Fielded : ℕ → List Step → Type 0
@@ -100,8 +100,8 @@ module _ (f : ℕ → List ℕ → ℕ) (ts : List ℕ) (s : List ℕ) where
       split (inside xs s) (ltb (getD s (t .field) 0) (t .bound)) (f w s)
       ∙ ap (λ z. cond z (f w s) 0 + cond (inside xs s && not (ltb (getD s (t .field) 0) (t .bound))) (f w s) 0) (sym (in-lower xs _ _ s c))
       ∙ ap (λ z. cond (inside l s) (f w s) 0 + cond z (f w s) 0) (sym (in-upper xs _ _ s c))
-      ∙ ap (λ z. z + cond (inside u s) (f w s) 0) (ih l (fits-lower xs ts _ _ c h) (rw length-lower fl) (rests-lower t qs (f w) xs c r))
-      ∙ ap (λ z. overBoxes plus got (cut qs (part w l)) + z) (ih u (fits-upper xs ts _ _ c h) (rw length-upper fl) (rests-upper t qs (f w) xs c r))
+      ∙ ap (λ z. z + cond (inside u s) (f w s) 0) (ih l (fits-lower xs ts _ _ c h) (rw length-part fl) (rests-lower t qs (f w) xs c r))
+      ∙ ap (λ z. overBoxes plus got (cut qs (part w l)) + z) (ih u (fits-upper xs ts _ _ c h) (rw length-part fl) (rests-upper t qs (f w) xs c r))
       ∙ sym (boxes-append got (cut qs (part w l)) (cut qs (part w u)))
       ∙ ap (overBoxes plus got) (sym (cut-parts t qs w xs c))
   at-go w t qs xs h k fl r ih false c = ih xs h fl (rests-whole t qs (f w) xs c k r) ∙ ap (overBoxes plus got) (sym (cut-whole t qs w xs c))

@@ -1,18 +1,18 @@
 -- A simple question has one piece at most in each box for each answer.
 use mathlib.Core.Path.{_≡_, refl, sym, ap, _∙_}
-use mathlib.Core.Bool.{Bool, true, false, cond, not, _&&_}
+use mathlib.Core.Bool.{Bool, true, false, cond}
 use mathlib.Core.List.{List, [], _∷_, _++_}
-use Prim.Native.Nat.{ℕ, zero, suc, _+_, _≤_, _<_}
+use Prim.Native.Nat.{ℕ, _+_, _≤_, _<_}
 use native.Mathlib.Omega.{arith}
 use lib.ListN.{getD, length, length-append}
-use lib.Dec.{ltb, eqb}
+use lib.Dec.{ltb}
 use borrow.Author.Tests.{eqb-true}
 use Rattle.std.specs.shelf.Lists.{kept-by}
 use Rattle.std.proofs.shelf.Elements.{kept-by-append}
 use Rattle.std.proofs.shelf.Tests.{not-true}
 use Rattle.question.specs.declared.steps.Step.{Step}
 use Rattle.question.specs.Steps.{step}
-use Rattle.question.specs.Questions.{answers, stepsOf}
+use Rattle.question.specs.Questions.{answers}
 use Rattle.question.proofs.Questions.{and-right, step-answers, step-steps}
 use Rattle.ranges.specs.declared.shapes.Side.{Side}
 use Rattle.ranges.specs.declared.shapes.WeightedBox.{WeightedBox}

@@ -1,17 +1,15 @@
 -- Total, peak and wholeness by boxes are what they are by sheets.
 use mathlib.Core.Path.{_≡_, refl, sym, ap, _∙_}
-use mathlib.Core.Bool.{Bool, true, false, cond, not, _&&_, _||_}
-use mathlib.Core.List.{List, [], _∷_, _++_, map}
-use Prim.Native.Nat.{ℕ, zero, suc, _+_, _-_, _*_, _≤_, _<_, max}
+use mathlib.Core.Bool.{Bool, true, false, cond, _&&_}
+use mathlib.Core.List.{List, [], _∷_}
+use Prim.Native.Nat.{ℕ, zero, suc, _+_, _-_, _*_, _≤_, max}
 use native.Mathlib.Omega.{arith}
 use native.Mathlib.Nat.{mul-one, one-mul, add-mul, mul-le-mul}
-use lib.ListN.{length}
-use lib.Dec.{leb, ltb, eqb}
-use borrow.Author.Tests.{le-leb}
+use lib.Dec.{leb, eqb}
 use Rattle.std.specs.shelf.Lists.{All}
 use Rattle.std.proofs.shelf.Ways.{tells}
 use Rattle.question.proofs.Questions.{and-left, and-right}
-use Rattle.belief.specs.Sheets.{upTo, overSheets, sumOf, maxOf, allOf, plus, both}
+use Rattle.belief.specs.Sheets.{upTo, sumOf, maxOf, allOf, plus, both}
 use Rattle.belief.proofs.Sums.{plus-mono, upTo-mono, over-mono, upTo-cong, over-cong}
 use Rattle.ranges.specs.declared.shapes.Side.{Side}
 use Rattle.ranges.specs.declared.shapes.WeightedBox.{WeightedBox}

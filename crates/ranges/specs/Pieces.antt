@@ -1,5 +1,5 @@
 -- How steps cut boxes into pieces. Assumes nothing.
-use mathlib.Core.Bool.{Bool, true, false, cond, _&&_}
+use mathlib.Core.Bool.{Bool, false, cond, _&&_}
 use mathlib.Core.List.{List, [], _∷_, _++_, map}
 use Prim.Native.Nat.{ℕ, zero, suc, _-_}
 use lib.Dec.{ltb, leb}
@@ -18,21 +18,23 @@ below x v = record { low = x .low; high = v - 1 }
 abbrev pub above : Side → ℕ → Side
 above x v = record { low = v; high = x .high }
 
--- whether side k is cut there, and the two parts of a box that is
+-- whether side k of a box is cut there
 unfoldable pub cuts : List Side → ℕ → ℕ → Bool
 cuts [] k v = false
 cuts (x ∷ xs) zero v = cutsSide x v
 cuts (x ∷ xs) (suc k) v = cuts xs k v
 
-unfoldable pub lower : List Side → ℕ → ℕ → List Side
-lower [] k v = []
-lower (x ∷ xs) zero v = below x v ∷ xs
-lower (x ∷ xs) (suc k) v = x ∷ lower xs k v
+-- a box with side k changed, and the two parts of a box that is cut
+unfoldable pub withSide : (Side → Side) → List Side → ℕ → List Side
+withSide g [] k = []
+withSide g (x ∷ xs) zero = g x ∷ xs
+withSide g (x ∷ xs) (suc k) = x ∷ withSide g xs k
 
-unfoldable pub upper : List Side → ℕ → ℕ → List Side
-upper [] k v = []
-upper (x ∷ xs) zero v = above x v ∷ xs
-upper (x ∷ xs) (suc k) v = x ∷ upper xs k v
+abbrev pub lower : List Side → ℕ → ℕ → List Side
+lower xs k v = withSide (λ x. below x v) xs k
+
+abbrev pub upper : List Side → ℕ → ℕ → List Side
+upper xs k v = withSide (λ x. above x v) xs k
 
 -- the pieces of a box under some steps
 unfoldable pub pieces : List Step → List Side → List (List Side)

@@ -4,12 +4,13 @@ use mathlib.Core.Logic.{⊎-elim}
 use mathlib.Core.List.{List, [], _∷_}
 use Prim.Native.Nat.{ℕ, zero, suc, _<_}
 use native.Mathlib.Omega.{arith}
-use lib.ListN.{length, getD}
+use lib.ListN.{length, getD, set}
 use Rattle.std.specs.Options.{mapped, Cases}
 use Rattle.std.specs.declared.option.Option.{Option}
 use Rattle.std.specs.declared.option.Option.the-variants.{Some, None}
 use Rattle.std.proofs.shelf.Tests.{cond-true, cond-false, eq-eqb, ne-eqb, cases-eq}
-use Rattle.register.specs.Places.{first, First, Absent, Sought}
+use Rattle.std.proofs.shelf.Lists.{length-set, getD-set-same, getD-set-other}
+use Rattle.register.specs.Places.{first, place, First, Absent, Sought, Distinct, Once}
 
 more-some : (o : Option ℕ) (i : ℕ) → mapped suc o ≡ Some i → (j : ℕ) × (o ≡ Some j) × (i ≡ suc j)
 more-some (Some j) i h = (j, refl, cc)
@@ -77,3 +78,36 @@ module _ {E : Type 0} (key : E → ℕ) (c : ℕ) where
   pub inside : (xs : List E) (r : Option ℕ) → Cases r (Absent key c xs) (First key c xs) → Cases r (Unit {0}) (λ i. i < length xs)
   inside xs (Some i) f = f .within
   inside xs None a = tt
+
+-- ---- each code stands once
+
+module _ {E : Type 0} (key : E → ℕ) where
+  absent : (c : ℕ) (xs : List E) → place key c xs ≡ None → (c ≡ 0 → ⊥) → Absent key c xs
+  absent c xs h n = sought key c xs .none (sym (cond-false _ _ _ (ne-eqb c 0 n)) ∙ h)
+
+  -- an entry elsewhere has not the code of the one that is put
+  elsewhere : (xs : List E) (at : ℕ) (e : E) (j : ℕ) (d : E) → place key (key e) xs ≡ None → (key e ≡ 0 → ⊥) → j < length xs → (j ≡ at → ⊥) → key (getD (set xs at e) j d) ≡ key e → ⊥
+  elsewhere xs at e j d h n l m q = absent (key e) xs h n .nowhere j d l (ap key (sym (getD-set-other xs at j e d m)) ∙ q)
+
+  put-once : (xs : List E) (at : ℕ) (e : E) → Distinct key xs → place key (key e) xs ≡ None → Distinct key (set xs at e)
+  put-once xs at e o h = record {
+    once = λ i j d li lj q n.
+        let wi : i < length xs = rw length-set at li in
+        let wj : j < length xs = rw length-set at lj in
+        ⊎-elim
+        (λ a. let k : getD (set xs at e) i d ≡ e = rw a (getD-set-same xs at e d (omega arith)) in
+        ⊎-elim (λ b. a ∙ sym b)
+        (λ b. absurd (elsewhere xs at e j d h (λ z. n (ap key k ∙ z)) wj b (sym q ∙ ap key k)))
+        (cases-eq j at))
+        (λ a. ⊎-elim
+        (λ b. let k : getD (set xs at e) j d ≡ e = rw b (getD-set-same xs at e d (omega arith)) in
+        absurd (elsewhere xs at e i d h (λ z. n (q ∙ (ap key k ∙ z))) wi a (q ∙ ap key k)))
+        (λ b. let f = getD-set-other xs at i e d a in
+        let g = getD-set-other xs at j e d b in
+        o .once i j d wi wj (ap key (sym f) ∙ (q ∙ ap key g)) (λ z. n (ap key f ∙ z)))
+        (cases-eq j at))
+        (cases-eq i at);
+  }
+
+  pub once : Once key
+  once = record { free = λ xs f. record { once = λ i j d li lj q n. absurd (n (f i d li)) }; put = put-once }

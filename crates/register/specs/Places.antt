@@ -4,7 +4,7 @@ use mathlib.Core.List.{List, [], _∷_}
 use mathlib.Core.Bool.{cond}
 use Prim.Native.Nat.{ℕ, suc, _<_}
 use lib.Dec.{eqb}
-use lib.ListN.{length, getD}
+use lib.ListN.{length, getD, set}
 use Rattle.std.specs.Options.{mapped}
 use Rattle.std.specs.declared.option.Option.{Option}
 use Rattle.std.specs.declared.option.Option.the-variants.{Some, None}
@@ -47,3 +47,14 @@ place key c xs = cond (eqb c 0) None (first key c xs)
 -- the free place that is taken next
 abbrev pub vacant : {E : Type 0} → (E → ℕ) → List E → Option ℕ
 vacant key xs = first key 0 xs
+
+-- ---- each code stands once
+
+-- no code other than 0 has two places
+pub record Distinct {E : Type 0} (key : E → ℕ) (xs : List E) : Type 0 where
+  pub once : (i j : ℕ) (d : E) → i < length xs → j < length xs → key (getD xs i d) ≡ key (getD xs j d) → (key (getD xs i d) ≡ 0 → ⊥) → i ≡ j
+
+-- so it is where every place is free, and so it stays where an entry is put whose code has no place, wherever it is put
+pub record Once {E : Type 0} (key : E → ℕ) : Type 0 where
+  pub free : (xs : List E) → ((i : ℕ) (d : E) → i < length xs → key (getD xs i d) ≡ 0) → Distinct key xs
+  pub put : (xs : List E) (at : ℕ) (e : E) → Distinct key xs → place key (key e) xs ≡ None → Distinct key (set xs at e)

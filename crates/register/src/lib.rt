@@ -8,7 +8,7 @@ ghost use Prim.Native.Nat.{_<_};
 ghost use lib.ListN.{length, set};
 ghost use denote.Ref.{name};
 ghost use Rattle.std.specs.Options.{Cases as BySome};
-ghost use Rattle.register.specs.Places.{First, Absent, Sought, Looked, first, place, vacant};
+ghost use Rattle.register.specs.Places.{First, Absent, Sought, Looked, Once, first, place, vacant};
 
 mod coded;
 
@@ -50,6 +50,7 @@ impl<'a, E: Coded> Register<'a, E> {
         ensures found { λ r. ⌜ r ≡ vacant key (now (now (self .entry) .entries)) ⌝ }
         ensures within { λ r. ⌜ BySome r (Unit {0}) (λ i. i < length (now (now (self .entry) .entries))) ⌝ }
         ensures exact { λ r. ⌜ Sought key 0 (now (now (self .entry) .entries)) r ⌝ }
+        ensures once { λ r. ⌜ Once key ⌝ }
     {
         find(self.entries, 0)
     }
@@ -79,6 +80,7 @@ fn find<E: Coded>(entries: &[E], code: u16) -> Option<usize>
     ensures found { λ r. ⌜ r ≡ first key code (now (entries .entry)) ⌝ }
     ensures within { λ r. ⌜ BySome r (Unit {0}) (λ i. i < length (now (entries .entry))) ⌝ }
     ensures exact { λ r. ⌜ Sought key code (now (entries .entry)) r ⌝ }
+    ensures once { λ r. ⌜ Once key ⌝ }
 {
     scan(entries, code)
 }

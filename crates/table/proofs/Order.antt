@@ -6,6 +6,7 @@ use Prim.Native.Nat.{ℕ, zero, suc, _+_, _*_, _/_, _%_, _≤_, _<_}
 use native.Mathlib.Omega.{arith}
 use native.Mathlib.Nat.{add-mul, one-mul, mod-lt, div-lt-iff-lt-mul, mul-le-mul-right}
 use lib.ListN.{length, getD}
+use lib.Dec.{leb}
 use borrow.Author.Tests.{leb-true, le-leb}
 use Rattle.std.proofs.shelf.Bits.{div-add-mod', div-mul-add, mod-mul-add}
 use Rattle.question.specs.Questions.{inSpan}
@@ -73,8 +74,8 @@ unfolding sizeOf placeOf fitsIn
 place-below [] s l e = omega arith
 place-below (t ∷ ts) [] l e = absurd (omega arith)
 place-below (t ∷ ts) (v ∷ s) l e =
-    let a = place-below ts s (omega arith) (and-right _ _ e) in
-    let b : v ≤ t = leb-true _ _ (and-left _ _ e) in
+    let a = place-below ts s (omega arith) (and-right (leb v t) (fitsIn ts s) e) in
+    let b : v ≤ t = leb-true _ _ (and-left (leb v t) (fitsIn ts s) e) in
     let c : v * sizeOf ts ≤ t * sizeOf ts = mul-le-mul-right (sizeOf ts) b in
     let d = add-mul t 1 (sizeOf ts) in let o = one-mul (sizeOf ts) in omega arith
 
@@ -84,10 +85,10 @@ sheet-place [] [] l e = refl
 sheet-place [] (v ∷ s) l e = absurd (omega arith)
 sheet-place (t ∷ ts) [] l e = absurd (omega arith)
 sheet-place (t ∷ ts) (v ∷ s) l e =
-    let p = place-below ts s (omega arith) (and-right _ _ e) in
+    let p = place-below ts s (omega arith) (and-right (leb v t) (fitsIn ts s) e) in
     let d = div-mul-add v (sizeOf ts) (placeOf ts s) p in
     let m = mod-mul-add v (sizeOf ts) (placeOf ts s) p in
-    let r = sheet-place ts s (omega arith) (and-right _ _ e) in
+    let r = sheet-place ts s (omega arith) (and-right (leb v t) (fitsIn ts s) e) in
     ap (λ x. x ∷ sheetAt ts ((v * sizeOf ts + placeOf ts s) % sizeOf ts)) d ∙ ap (λ x. v ∷ sheetAt ts x) m ∙ ap (λ x. v ∷ x) r
 
 -- ---- the values of a span

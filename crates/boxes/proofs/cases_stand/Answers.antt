@@ -1,3 +1,4 @@
+-- The worked cases, computed.
 use Rattle.boxes.proofs.Standing.{hold}
 use Rattle.boxes.proofs.cases_stand.Needs as need
 

@@ -1,3 +1,4 @@
+-- The laws stand.
 use Rattle.boxes.proofs.Standing.{combined, sorts, answer, soundness}
 use Rattle.boxes.proofs.laws_stand.Needs as need
 

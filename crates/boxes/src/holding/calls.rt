@@ -6,10 +6,13 @@ ghost use Rattle.std.specs.Options.{isSome};
 ghost use Rattle.std.specs.Slices.{found};
 ghost use Rattle.question.specs.Questions.{isStepped};
 ghost use Rattle.question.specs.Texts.{text};
+ghost use Rattle.refusal.specs.Replies.{reply, mapped};
+ghost use Rattle.belief.specs.Meaning.{massOf, heaviestOf};
+ghost use Rattle.belief.specs.Calls.{replied};
 ghost use Rattle.ranges.specs.Boxes.{volume, entire};
 ghost use Rattle.ranges.specs.Changes.{revisedBoxes};
 ghost use Rattle.boxes.specs.Spans.{goodSpan, zeroOutside, spanOnly};
-ghost use Rattle.boxes.specs.Holding.{goodBoxes, held, carried};
+ghost use Rattle.boxes.specs.Holding.{goodBoxes, held, meaning, carried};
 ghost use Rattle.boxes.specs.Takers.{Weighed, Holds};
 use crate::cuts::hand_all;
 use crate::holding::Boxes;
@@ -29,6 +32,7 @@ use crate::takers::calls::SieveTaker;
 use crate::takers::calls::TallyTaker;
 use question::Question;
 use ranges::WeightedBox;
+use refusal::Refusal;
 
 impl Boxes {
     // The boxes that are kept.
@@ -85,6 +89,20 @@ impl Boxes {
             return None;
         }
         Some(tally)
+    }
+
+    // The tally of a question that is carried; 9, 10 or 12.
+    pub(crate) fn asked(&self, question: &[u8], answer: u8) -> Result<Tally, Refusal>
+        ensures mass { λ r. ⌜ (meaning (now (self .entry)) .sound ≡ true →
+            mapped (λ t. t .mass) (reply r) ≡ replied (meaning (now (self .entry))) (now (question .entry)) (massOf (meaning (now (self .entry))) (now (question .entry)) answer)) ⌝ }
+        ensures heaviest { λ r. ⌜ (meaning (now (self .entry)) .sound ≡ true →
+            mapped (λ t. t .heaviest) (reply r) ≡ replied (meaning (now (self .entry))) (now (question .entry)) (heaviestOf (meaning (now (self .entry))) (now (question .entry)) answer)) ⌝ }
+    {
+        let question = Question::read(question)?;
+        match self.tally(question, answer) {
+            Some(tally) => Ok(tally),
+            None => Err(Refusal::NotCarried),
+        }
     }
 
     // The pieces under a stepped question that give the answer.

@@ -58,19 +58,13 @@ pub impl Belief for Boxes as BoxesBelief {
     }
 
     fn mass(&self, question: &[u8], answer: u8) -> Result<u64, Refusal> {
-        let question = Question::read(question)?;
-        match self.tally(question, answer) {
-            Some(tally) => Ok(tally.mass),
-            None => Err(Refusal::NotCarried),
-        }
+        let tally = self.asked(question, answer)?;
+        Ok(tally.mass)
     }
 
     fn heaviest(&self, question: &[u8], answer: u8) -> Result<u64, Refusal> {
-        let question = Question::read(question)?;
-        match self.tally(question, answer) {
-            Some(tally) => Ok(tally.heaviest),
-            None => Err(Refusal::NotCarried),
-        }
+        let tally = self.asked(question, answer)?;
+        Ok(tally.heaviest)
     }
 
     fn revise(&mut self, question: &[u8], answer: u8) -> Result<(), Refusal> {

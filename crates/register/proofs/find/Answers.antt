@@ -1,6 +1,6 @@
 use mathlib.Core.Path.{sym, subst}
 use Rattle.register.specs.Places.{Sought}
-use Rattle.register.proofs.Looking.{computed, inside, sought}
+use Rattle.register.proofs.Looking.{computed, inside, sought, once}
 use Rattle.register.proofs.find.Needs as need
 
 pub returns : need.returns
@@ -12,4 +12,5 @@ returns g c =
       found = e;
       within = inside key (c .args .code) xs (c .scan .result) (c .scan .ensures);
       exact = subst (Sought key (c .args .code) xs) (sym e) (sought key (c .args .code) xs);
+      once = once key;
     }

@@ -1,5 +1,5 @@
+-- The pieces of a box go on one after another.
 use borrow.Author.Needs.{needs}
-use native.Mathlib.Omega.{arith}
 use Rattle.boxes.proofs.Handing.{hand-last, hand-whole, hand-parts}
 use Rattle.boxes.proofs.cuts.+hand_pieces.Needs as need
 

@@ -1,3 +1,4 @@
+-- The steps that are left fall.
 use lib.ListN.{length}
 use Rattle.boxes.proofs.cuts.+hand_pieces.Given as given
 

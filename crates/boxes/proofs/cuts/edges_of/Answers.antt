@@ -1,8 +1,6 @@
+-- The eight edges of a box.
 use borrow.Author.Needs.{needs}
-use mathlib.Core.Path.{_≡_, _∙_}
-use mathlib.Core.List.{[], _∷_}
-use lib.ListN.{getD}
-use Rattle.boxes.proofs.Fours.{no-side, start, end, four-edges}
+use Rattle.boxes.proofs.Fours.{four-edges}
 use Rattle.boxes.proofs.cuts.edges_of.Needs as need
 
 pub returns : need.returns

@@ -1,4 +1,4 @@
-use borrow.Author.Needs.{needs}
+-- The pieces of all boxes go on one after another.
 use mathlib.Core.Path.{refl}
 use Rattle.boxes.proofs.Handing.{hand-more, hand-end}
 use Rattle.boxes.proofs.cuts.hand_all.Needs as need

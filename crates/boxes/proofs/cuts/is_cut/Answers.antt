@@ -1,7 +1,7 @@
+-- A side of the four is cut where the box is.
 use borrow.Author.Needs.{needs}
 use native.Mathlib.Omega.{arith}
-use mathlib.Core.Path.{_≡_, sym, _∙_}
-use Prim.Native.Nat.{_<_}
+use mathlib.Core.Path.{_≡_, _∙_}
 use lib.ListN.{length}
 use Rattle.ranges.proofs.Folds.{never}
 use Rattle.boxes.proofs.Fours.{cut-at, cut-past}

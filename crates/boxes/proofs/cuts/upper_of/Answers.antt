@@ -1,9 +1,11 @@
-use mathlib.Core.Path.{_≡_, ap, _∙_}
+-- The upper part of a cut box.
+use mathlib.Core.Path.{ap, _∙_}
 use lib.ListN.{set}
-use Rattle.boxes.proofs.Fours.{upper-at}
+use Rattle.ranges.specs.Pieces.{above}
+use Rattle.boxes.proofs.Fours.{part-at}
 use Rattle.boxes.proofs.cuts.upper_of.Needs as need
 
 pub returns : need.returns
 returns c =
     ap (λ x. record { sides = set (c .args .b .sides) (c .args .k) x; weight = c .args .b .weight }) (c .above-of .ensures)
-    ∙ ap (λ xs. record { sides = xs; weight = c .args .b .weight }) (upper-at (c .args .b .sides) (c .args .k) (c .args .v))
+    ∙ ap (λ xs. record { sides = xs; weight = c .args .b .weight }) (part-at (λ x. above x (c .args .v)) (c .args .b .sides) (c .args .k))

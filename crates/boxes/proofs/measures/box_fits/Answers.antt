@@ -1,3 +1,4 @@
+-- A box fits the tops side by side.
 use borrow.Author.Needs.{needs}
 use Rattle.boxes.proofs.Fours.{four-fits}
 use Rattle.boxes.proofs.measures.box_fits.Needs as need

@@ -1,3 +1,4 @@
+-- Boxes are apart if some side is.
 use borrow.Author.Needs.{needs}
 use Rattle.boxes.proofs.Fours.{four-apart}
 use Rattle.boxes.proofs.measures.boxes_apart.Needs as need

@@ -1,3 +1,4 @@
+-- The lowest values of the four sides.
 use borrow.Author.Needs.{needs}
 use Rattle.boxes.proofs.Fours.{four-corner}
 use Rattle.boxes.proofs.measures.corner_of.Needs as need

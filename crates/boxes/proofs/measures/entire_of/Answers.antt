@@ -1,3 +1,4 @@
+-- The four sides of the box of all sheets.
 use borrow.Author.Needs.{needs}
 use Rattle.boxes.proofs.Fours.{four-entire}
 use Rattle.boxes.proofs.measures.entire_of.Needs as need

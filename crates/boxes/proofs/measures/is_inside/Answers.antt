@@ -1,3 +1,4 @@
+-- A sheet lies in a box value by value.
 use borrow.Author.Needs.{needs}
 use Rattle.boxes.proofs.Fours.{four-inside}
 use Rattle.boxes.proofs.measures.is_inside.Needs as need

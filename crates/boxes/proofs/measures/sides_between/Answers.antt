@@ -1,3 +1,4 @@
+-- The four sides between two sheets.
 use borrow.Author.Needs.{needs}
 use Rattle.boxes.proofs.Fours.{four-between}
 use Rattle.boxes.proofs.measures.sides_between.Needs as need

@@ -1,3 +1,4 @@
+-- The product of four widths fits.
 use borrow.Author.Needs.{needs}
 use native.Mathlib.Omega.{arith}
 use Rattle.boxes.proofs.Fours.{four-volume, products}

@@ -1,3 +1,4 @@
+-- The width of a side.
 use borrow.Author.Needs.{needs}
 use Rattle.ranges.specs.Boxes.{width}
 use Rattle.boxes.proofs.measures.width_of.Needs as need

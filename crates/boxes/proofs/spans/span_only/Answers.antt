@@ -1,3 +1,4 @@
+-- The four values, 0 outside the span.
 use Rattle.boxes.specs.Spans.{spanOnly, spanValue}
 use Rattle.boxes.proofs.spans.span_only.Needs as need
 

@@ -1,5 +1,6 @@
+-- The fields outside the span, one by one.
 use native.Mathlib.Omega.{arith}
-use mathlib.Core.Path.{_≡_, ap, _∙_}
+use mathlib.Core.Path.{ap, _∙_}
 use mathlib.Core.Bool.{_||_}
 use lib.ListN.{getD}
 use lib.Dec.{eqb}

@@ -1,3 +1,4 @@
+-- What the loop keeps true.
 use mathlib.Core.Path.{_≡_}
 use mathlib.Core.Bool.{_||_}
 use lib.ListN.{getD}

@@ -1,5 +1,6 @@
+-- Each box against those after it.
 use native.Mathlib.Omega.{arith}
-use mathlib.Core.Path.{_≡_, refl, ap, _∙_}
+use mathlib.Core.Path.{refl, ap, _∙_}
 use Prim.Native.Nat.{_+_}
 use lib.ListN.{getD, drop, length-drop}
 use Rattle.std.proofs.shelf.Lists.{take-all}

@@ -1,3 +1,4 @@
+-- Each box against the tops.
 use mathlib.Core.Path.{refl}
 use mathlib.Core.Bool.{_&&_}
 use lib.Dec.{leb}

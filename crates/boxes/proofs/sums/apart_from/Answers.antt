@@ -1,3 +1,4 @@
+-- One box against each of the others.
 use mathlib.Core.Path.{refl}
 use Rattle.ranges.specs.Boxes.{apart, apartAll}
 use Rattle.boxes.proofs.Loops.{test-more, test-all, apart-tests}

@@ -1,4 +1,4 @@
-use borrow.Author.Needs.{needs}
+-- The greatest weight so far.
 use native.Mathlib.Omega.{arith}
 use Rattle.ranges.specs.Boxes.{peakIn}
 use Rattle.boxes.proofs.Loops.{max-more, max-all}

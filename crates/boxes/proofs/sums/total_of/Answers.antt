@@ -1,3 +1,4 @@
+-- The masses so far.
 use native.Mathlib.Omega.{arith}
 use Rattle.ranges.specs.Boxes.{totalIn}
 use Rattle.boxes.proofs.Loops.{sum-none, sum-more, sum-all}

@@ -1,3 +1,4 @@
+-- What the loop keeps true.
 use Prim.Native.Nat.{_*_}
 use Rattle.ranges.specs.Boxes.{volume}
 use Rattle.boxes.proofs.Loops.{Summed}

@@ -1,3 +1,4 @@
+-- The volumes so far.
 use native.Mathlib.Omega.{arith}
 use Rattle.ranges.specs.Boxes.{volumeIn}
 use Rattle.boxes.proofs.Loops.{sum-none, sum-more, sum-all}

@@ -1,3 +1,4 @@
+-- What the loop keeps true.
 use Rattle.ranges.specs.Boxes.{volume}
 use Rattle.boxes.proofs.Loops.{Summed}
 use Rattle.boxes.proofs.sums.volumes_of.Given as given

@@ -1,3 +1,4 @@
+-- The boxes passed do not hold the sheet.
 use mathlib.Core.Path.{refl, sym, _∙_}
 use Rattle.boxes.proofs.Loops.{weight-past, weight-found, weight-none}
 use Rattle.boxes.proofs.sums.weight_of.Needs as need

@@ -1,9 +1,9 @@
+-- Fresh boxes are one box over the whole span.
 use borrow.Author.Needs.{needs}
-use mathlib.Core.Path.{_≡_, refl, sym, ap, _∙_}
-use mathlib.Core.Bool.{true}
+use mathlib.Core.Path.{_≡_, sym}
 use Prim.Native.Nat.{_<_}
 use lib.ListN.{length, getD}
-use Rattle.boxes.specs.Holding.{most-boxes, held, boxed, Fresh}
+use Rattle.boxes.specs.Holding.{most-boxes, held}
 use Rattle.boxes.proofs.Makings.{making-span, making-value, making-ok, fresh-is, entire-small, one-few, one-single}
 use Rattle.boxes.proofs.holding.Boxes.fresh.Needs as need
 

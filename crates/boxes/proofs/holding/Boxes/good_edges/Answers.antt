@@ -1,4 +1,5 @@
-use mathlib.Core.Path.{_≡_, ap, _∙_}
+-- The values are those of a box of the span.
+use mathlib.Core.Path.{ap, _∙_}
 use Rattle.ranges.specs.Boxes.{fits}
 use Rattle.boxes.specs.Holding.{goodEdges}
 use Rattle.boxes.proofs.holding.Boxes.good_edges.Needs as need

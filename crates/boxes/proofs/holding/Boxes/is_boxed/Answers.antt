@@ -1,3 +1,4 @@
+-- The tests of all boxes.
 use Rattle.boxes.proofs.Returns.{boxed-is}
 use Rattle.boxes.proofs.holding.Boxes.is_boxed.Needs as need
 

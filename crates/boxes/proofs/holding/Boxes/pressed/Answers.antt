@@ -1,3 +1,4 @@
+-- The pieces that were pressed.
 use borrow.Author.Needs.{needs}
 use Rattle.boxes.proofs.Leans.{press-holds}
 use Rattle.boxes.proofs.holding.Boxes.pressed.Needs as need

@@ -1,3 +1,4 @@
+-- The pieces that give the answer.
 use borrow.Author.Needs.{needs}
 use Rattle.question.specs.Questions.{isStepped}
 use Rattle.question.specs.Texts.{text}

@@ -1,4 +1,4 @@
-use mathlib.Core.Path.{refl}
+-- A question is carried if its tally has few pieces for each answer.
 use Rattle.boxes.proofs.Asking.{not-stepped, not-inside, is-carried, weighs}
 use Rattle.boxes.specs.Holding.{held}
 use Rattle.boxes.proofs.holding.Boxes.tally.Needs as need

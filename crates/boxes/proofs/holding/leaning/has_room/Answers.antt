@@ -1,3 +1,4 @@
+-- Boxes are few and light enough.
 use borrow.Author.Tests.{leb-true}
 use mathlib.Core.Path.{sym}
 use Rattle.ranges.proofs.Folds.{never}

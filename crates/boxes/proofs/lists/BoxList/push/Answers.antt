@@ -1,3 +1,4 @@
+-- One box more, or one more counted.
 use mathlib.Core.Path.{ap, _∙_}
 use Prim.Native.Nat.{_+_}
 use Rattle.boxes.specs.Takers.{capped}

@@ -1,3 +1,4 @@
+-- A piece is multiplied if it lies inside.
 use Rattle.boxes.proofs.Takings.{press-is}
 use Rattle.boxes.proofs.takers.Press.press.Needs as need
 

@@ -1,5 +1,6 @@
+-- The answers, one by one.
 use native.Mathlib.Omega.{arith}
-use mathlib.Core.Path.{_≡_, refl, ap, _∙_}
+use mathlib.Core.Path.{ap, _∙_}
 use lib.Dec.{leb}
 use lib.ListN.{getD}
 use Rattle.question.specs.Questions.{allBelow}

@@ -1,3 +1,4 @@
+-- What the loop keeps true.
 use mathlib.Core.Path.{_≡_}
 use lib.Dec.{leb}
 use lib.ListN.{getD}

@@ -6,4 +6,4 @@ use Rattle.pair.proofs.kind.PairBelief.total.Needs as need
 pub returns : need.returns
 returns g c = λ e.
     let p = parts (g .L·Belief .means (c .args .self .now .left)) (g .R·Belief .means (c .args .self .now .right)) (g .L·Belief·met .laws _) (g .R·Belief·met .laws _) e in
-    total-is _ _ p _ _ _ (c .saturating-mul .ensures) (c .total .ensures (p .left)) (c .total-2 .ensures (p .right))
+    total-is _ _ p _ _ _ (c .product .ensures) (c .total .ensures (p .left)) (c .total-2 .ensures (p .right))

@@ -1,3 +1,4 @@
+-- Whether the question is carried.
 use Rattle.boxes.proofs.Returns.{carries-returns}
 use Rattle.boxes.proofs.holding.kind.BoxesBelief.carries.Needs as need
 

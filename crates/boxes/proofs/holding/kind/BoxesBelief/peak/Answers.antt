@@ -1,3 +1,4 @@
+-- The peak of sound boxes.
 use Rattle.boxes.proofs.Returns.{parts, peak-returns}
 use Rattle.boxes.proofs.holding.kind.BoxesBelief.peak.Needs as need
 

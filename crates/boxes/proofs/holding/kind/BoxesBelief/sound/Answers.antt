@@ -1,3 +1,4 @@
+-- Soundness in its two parts.
 use Rattle.boxes.specs.Holding.{soundIn}
 use Rattle.boxes.proofs.holding.kind.BoxesBelief.sound.Needs as need
 

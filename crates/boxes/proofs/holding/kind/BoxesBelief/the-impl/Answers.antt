@@ -1,3 +1,4 @@
+-- Sound boxes keep the laws.
 use Rattle.boxes.specs.Holding.{held}
 use Rattle.boxes.proofs.Meanings.{laws}
 use Rattle.boxes.proofs.Returns.{parts}

@@ -1,3 +1,4 @@
+-- The total of sound boxes.
 use Rattle.boxes.proofs.Returns.{parts, total-returns}
 use Rattle.boxes.proofs.holding.kind.BoxesBelief.total.Needs as need
 

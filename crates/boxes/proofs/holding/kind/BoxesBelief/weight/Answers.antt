@@ -1,3 +1,4 @@
+-- The weight of a sheet in sound boxes.
 use Rattle.boxes.proofs.Returns.{parts, weight-returns}
 use Rattle.boxes.proofs.holding.kind.BoxesBelief.weight.Needs as need
 

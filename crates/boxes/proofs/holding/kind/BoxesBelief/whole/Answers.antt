@@ -1,3 +1,4 @@
+-- Sound boxes are whole if they hold as many sheets as the span.
 use Rattle.boxes.proofs.Returns.{parts, whole-returns}
 use Rattle.boxes.proofs.holding.kind.BoxesBelief.whole.Needs as need
 

@@ -1,3 +1,4 @@
+-- No boxes over no span.
 use mathlib.Core.Path.{refl}
 use Rattle.boxes.proofs.Makings.{blank}
 use Rattle.boxes.proofs.holding.making.BoxesDefault.default.Needs as need

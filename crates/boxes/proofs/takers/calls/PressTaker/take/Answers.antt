@@ -1,4 +1,5 @@
-use mathlib.Core.Path.{_≡_, ap, _∙_}
+-- One piece more is pressed.
+use mathlib.Core.Path.{ap, _∙_}
 use Rattle.boxes.specs.Takers.{put, pressed}
 use Rattle.boxes.proofs.takers.calls.PressTaker.take.Needs as need
 

@@ -1,3 +1,4 @@
+-- One piece more is sifted.
 use Rattle.boxes.proofs.Takings.{sift-yes, sift-no}
 use Rattle.boxes.proofs.takers.calls.SieveTaker.take.Needs as need
 

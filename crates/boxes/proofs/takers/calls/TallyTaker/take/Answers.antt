@@ -1,3 +1,4 @@
+-- One piece more is counted and weighed.
 use native.Mathlib.Omega.{arith}
 use Rattle.question.specs.Texts.{text}
 use Rattle.question.proofs.Questions.{answers-small}
