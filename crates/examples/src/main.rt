@@ -49,7 +49,14 @@ const SERVED: [&str; 12] = [
     "serve-head-not-understood",
 ];
 
+// The contracts of these calls are the theorems on the worked cases and on the pieces of boxes.
+fn theorems() -> u8 {
+    boxes::cases_stand() | boxes::laws_stand() | pair::cases_stand() | cases::cases_stand()
+}
+
 fn main(rt: LibcRuntime) -> io::Result<()> {
+    let theorems = theorems();
+    println!(rt, "theorems: {theorems}")?;
     for name in WEIGHED {
         println!(rt, "== {name}")?;
         let text = fs::read(&rt, name)?;
