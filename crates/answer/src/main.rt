@@ -2,6 +2,8 @@
 // hexadecimal, `-` being no bytes. It prints the answer, or why and where the bytes are refused. The script is the file
 // named by the first argument, or standard input. Empty lines and lines that begin with `#` are passed over, and of any
 // other line it says that it is not understood. It decides nothing: it rests on question and script.
+#![tactic(auto)]
+
 ghost use Rattle.std.specs.Prelude.{◌≡◌};
 ghost use Rattle.refusal.specs.Replies.{reply, mapped};
 ghost use Rattle.question.specs.Reading.{reading};

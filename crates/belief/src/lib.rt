@@ -3,6 +3,8 @@
 // Dynamic Enforcement of Knowledge-Based Security Policies, CSF 2011). The trait promises nothing itself: its ghost member
 // says what a belief means, its law what is owed of sound ones, and its contracts what each function returns in those
 // terms. It rests on the question language. The kinds of belief stand in crates of their own above it.
+#![tactic(auto)]
+
 mod kind;
 
 pub use kind::Belief;

@@ -3,6 +3,8 @@
 // promises every function of a belief in terms of the weights of all sheets, that fresh boxes and leaned and revised sound
 // ones are sound, and which questions are carried. It rests on the question language, the trait of beliefs, and the
 // mathematics of boxes in crate ranges.
+#![tactic(auto)]
+
 ghost use Rattle.boxes.specs.Laws.{Hold, cases, Combined, Sorts, OneAnswer, Soundness};
 
 mod cuts;

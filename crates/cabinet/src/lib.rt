@@ -4,6 +4,8 @@
 // memory stands for what happened (specs/Standing.antt), and what happened is lawful (the crate history). It rests on
 // refusal, question, belief, register, audit and history. `session` makes a cabinet and serves a list of calls, and its
 // contract has the whole law.
+#![tactic(auto)]
+
 mod asking;
 mod cabinets;
 mod checks;

@@ -1,5 +1,7 @@
 // Runs the scripts under data/, one after another, as the programs `weigh` and `serve` would, and prints what they print.
 // It is there to be compared with the file stdout, which holds what a model of the programs printed.
+#![tactic(auto)]
+
 use std::{fs, io};
 
 const WEIGHED: [&str; 28] = [

@@ -4,3 +4,4 @@
 // the sealed sheet's own, a question is refused as too telling exactly when it is, nothing tells the sealed sheet from
 // another that gives the same answers, and no restorer holds a sheet above his threshold. It is pure: the cabinet's calls
 // are tied to it in the crate above. It rests on the question language, on what a belief means and on the format of the audit.
+#![tactic(auto)]

@@ -1,5 +1,7 @@
 // The kinds of belief together: pairs of pairs, proved over any three beliefs and called with tables, and calls that are run
 // and compared with what they should return. It promises nothing to other crates; a further kind of belief needs no change here.
+#![tactic(auto)]
+
 ghost use Rattle.std.specs.Prelude.{◌≡◌, false};
 ghost use Rattle.refusal.specs.Replies.{reply, and_then};
 ghost use Rattle.belief.specs.Meaning.{heaviest_of};

@@ -3,6 +3,8 @@
 // weights are those of these weights over all sheets of both spans. It carries a question of the left's fields as the left
 // does, else one of the right's fields as the right does, and no other. It rests on what beliefs mean, and on tables for a
 // worked case.
+#![tactic(auto)]
+
 ghost use Rattle.pair.specs.Cases.{Worked};
 
 mod joint;

@@ -3,6 +3,8 @@
 // question's bound, its value and its answer on a sheet, the fields that it reads, and its steps. It promises that each of
 // these is what the grammar in specs/Expressions.antt says of the one expression that the bytes write, over the integers,
 // and that a refusal and its place are those of specs/Laws.antt. It rests on the crate refusal.
+#![tactic(auto)]
+
 mod checked;
 mod listed;
 mod meanings;

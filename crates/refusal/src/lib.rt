@@ -1,6 +1,8 @@
 // Why a call is declined. Every call of the product that declines returns one of these fourteen refusals; where several
 // apply, the first in their order. This crate promises the number of each refusal and the place that 9 and 10 bring with
 // them, by the definitions in specs/Replies.antt, through which every contract speaks of refusals. It rests on nothing.
+#![tactic(auto)]
+
 ghost use Rattle.std.specs.Prelude.{◌≡◌};
 ghost use Rattle.refusal.specs.Replies.{number_of, place_of};
 

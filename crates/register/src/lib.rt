@@ -2,6 +2,8 @@
 // that a place is free. It promises that making frees every place and changes nothing but the codes, that a code is found
 // at the first place that has it and nowhere else, and that putting an entry changes its own place alone. What is found is
 // said in specs/Places.antt, once as a law and once by a definition. It rests on nothing.
+#![tactic(auto)]
+
 ghost use Rattle.std.specs.Prelude.{◌≡◌, ◌<◌, map, length, IfSome, MatchOption, slice_set};
 ghost use Rattle.register.specs.Places.{First, Absent, Sought, Looked, Once, first, place, vacant};
 

@@ -1,5 +1,7 @@
 // The one register over two kinds of entries, houses and parcels: it puts and finds them, and prints what it found. What
 // both share is written once, for every kind that has a code. It rests on register.
+#![tactic(auto)]
+
 ghost use Rattle.std.specs.Prelude.{◌≡◌};
 ghost use Rattle.registers.specs.Entering.{entered, leaves};
 

@@ -1,6 +1,8 @@
 // One cabinet from its making to its audit: reads a script of enrolments, questions and looks, from the file that the
 // first argument names or from standard input, and prints what each call returned and the audit. It decides nothing; crate
 // programs has what it does.
+#![tactic(auto)]
+
 use std::io;
 
 fn main(rt: HostRuntime) -> io::Result<()> {

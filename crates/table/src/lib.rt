@@ -3,6 +3,8 @@
 // given an answer that was heard; totals, masses and heaviest weights are those of these weights over all sheets of the span;
 // and it carries every question that reads only fields of its span. Whether a table is sound is worked out from what it
 // holds. It rests on the question language and on what beliefs mean.
+#![tactic(auto)]
+
 mod held;
 mod kind;
 mod making;
