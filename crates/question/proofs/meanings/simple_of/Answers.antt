@@ -15,12 +15,12 @@ returns c =
     let q = c.args.bytes.now in
     let a = asked c.args.bytes.now c.requires in
     let w : q ≡ written a.tree = a.is ∙ append-nil (written a.tree) in
-    let s : c.step-at.result ≡ simple a.tree = c.step-at.ensures.is ∙ (ap front_step a.is ∙ front_simple a.tree []) in
-    let is : c.step-at.result ≡ simple_as q = s ∙ sym (ap (read_or None simple) a.reads) in
+    let s : c.step_at.result ≡ simple a.tree = c.step_at.ensures.is ∙ (ap front_step a.is ∙ front_simple a.tree []) in
+    let is : c.step_at.result ≡ simple_as q = s ∙ sym (ap (read_or None simple) a.reads) in
     record {
       is = is;
       six = record {
-        told = λ t e. w ∙ simple_step a.tree t (subst (λ x. get_or x 5 0 < 256) w (subst (λ r. IfSome r (λ x. get_or c.args.bytes.now 5 0 < 256)) e c.step-at.ensures.low)) (sym s ∙ e);
+        told = λ t e. w ∙ simple_step a.tree t (subst (λ x. get_or x 5 0 < 256) w (subst (λ r. IfSome r (λ x. get_or c.args.bytes.now 5 0 < 256)) e c.step_at.ensures.low)) (sym s ∙ e);
         all = λ k v h l e. is ∙ (ap simple_as e ∙ step_simple k v h l);
       };
     }

@@ -22,10 +22,10 @@ bound-requires t c =
     let q = ap command c.in-33.is in
     (omega (arith, longer bs q refl, c.decreases), begins_one bs q c.requires (λ a h. tt))
 
-pub returns-in-err-rest : goal.returns-in-err-rest
-returns-in-err-rest t c =
-    let p = err_from_is_err_and c.from-residual.result c.from-residual.ensures.1 in
-    rw (p.1, p.2) (pass_one c.args.bytes.now (ap command c.in-33.is) c.in-err-rest.ensures)
+pub returns-in_err-rest-in-33 : goal.returns-in_err-rest-in-33
+returns-in_err-rest-in-33 t c =
+    let p = err_from_is_err_and c.from_residual.result c.from_residual.ensures.1 in
+    rw (p.1, p.2) (pass_one c.args.bytes.now (ap command c.in-33.is) c.in_err-rest-in-33.ensures)
 
 pub bound-requires-in-63 : goal.bound-requires-in-63
 bound-requires-in-63 t c =
@@ -33,100 +33,100 @@ bound-requires-in-63 t c =
     let q = ap command c.in-63.is in
     (omega (arith, longer bs q refl, c.decreases), begins_three bs q c.requires (λ a b c h. tt))
 
-pub returns-in-err-rest-2 : goal.returns-in-err-rest-2
-returns-in-err-rest-2 t c =
-    let p = err_from_is_err_and c.from-residual-in-err-rest-2.result c.from-residual-in-err-rest-2.ensures.1 in
+pub returns-in_err-rest-in-63 : goal.returns-in_err-rest-in-63
+returns-in_err-rest-in-63 t c =
+    let p = err_from_is_err_and c.from_residual-in_err-rest-in-63.result c.from_residual-in_err-rest-in-63.ensures.1 in
     let bs = c.args.bytes.now in
     let q = ap command c.in-63.is in
-    rw (p.1, p.2) (pass_three bs q c.in-err-rest-2.ensures)
+    rw (p.1, p.2) (pass_three bs q c.in_err-rest-in-63.ensures)
 
 pub bound-requires-in-63-2 : goal.bound-requires-in-63-2
 bound-requires-in-63-2 t c =
     let bs = c.args.bytes.now in
     let q = ap command c.in-63.is in
-    let w = c.in-ok-rest-2.ensures in
+    let w = c.in_ok-rest-in-63.ensures in
     let d = drops {P = Any} (tail bs) (begins_three bs q c.requires (λ a b c h. tt)) w in
     (omega (arith, d, longer bs q refl, c.decreases), begins_three_2 bs q c.requires w (λ a b c h. tt))
 
-pub returns-in-err-y : goal.returns-in-err-y
-returns-in-err-y t c =
-    let p = err_from_is_err_and c.from-residual-in-err-y.result c.from-residual-in-err-y.ensures.1 in
+pub returns-in_err-y-in-63 : goal.returns-in_err-y-in-63
+returns-in_err-y-in-63 t c =
+    let p = err_from_is_err_and c.from_residual-in_err-y-in-63.result c.from_residual-in_err-y-in-63.ensures.1 in
     let bs = c.args.bytes.now in
     let q = ap command c.in-63.is in
-    let w = c.in-ok-rest-2.ensures in
-    rw (p.1, p.2) (pass_three_2 bs q w (drops {P = Any} (tail bs) (begins_three bs q c.requires (λ a b c h. tt)) w) c.in-err-y.ensures)
+    let w = c.in_ok-rest-in-63.ensures in
+    rw (p.1, p.2) (pass_three_2 bs q w (drops {P = Any} (tail bs) (begins_three bs q c.requires (λ a b c h. tt)) w) c.in_err-y-in-63.ensures)
 
 pub bound-requires-in-63-3 : goal.bound-requires-in-63-3
 bound-requires-in-63-3 t c =
     let bs = c.args.bytes.now in
     let q = ap command c.in-63.is in
-    let w = c.in-ok-rest-2.ensures in
-    let v = c.in-ok-y.ensures in
+    let w = c.in_ok-rest-in-63.ensures in
+    let v = c.in_ok-y-in-63.ensures in
     let d = drops {P = Any} (tail bs) (begins_three bs q c.requires (λ a b c h. tt)) w in
     let e = drops {P = Any} _ (begins_three_2 bs q c.requires w (λ a b c h. tt)) v in
     (omega (arith, d, e, longer bs q refl, c.decreases), begins_three_3 bs q c.requires w v (λ a b c h. tt))
 
-pub returns-in-err-z : goal.returns-in-err-z
-returns-in-err-z t c =
-    let p = err_from_is_err_and c.from-residual-in-err-z.result c.from-residual-in-err-z.ensures.1 in
+pub returns-in_err-z-in-63 : goal.returns-in_err-z-in-63
+returns-in_err-z-in-63 t c =
+    let p = err_from_is_err_and c.from_residual-in_err-z-in-63.result c.from_residual-in_err-z-in-63.ensures.1 in
     let bs = c.args.bytes.now in
     let q = ap command c.in-63.is in
-    let w = c.in-ok-rest-2.ensures in
-    let v = c.in-ok-y.ensures in
+    let w = c.in_ok-rest-in-63.ensures in
+    let v = c.in_ok-y-in-63.ensures in
     let d = drops {P = Any} (tail bs) (begins_three bs q c.requires (λ a b c h. tt)) w in
     let e = drops {P = Any} _ (begins_three_2 bs q c.requires w (λ a b c h. tt)) v in
-    rw (p.1, p.2) (pass_three_3 bs q w v (omega (arith, d, e)) c.in-err-z.ensures)
+    rw (p.1, p.2) (pass_three_3 bs q w v (omega (arith, d, e)) c.in_err-z-in-63.ensures)
 
-pub bound-requires-in-default-command : goal.bound-requires-in-default-command
-bound-requires-in-default-command t c =
+pub bound-requires-in_default-command : goal.bound-requires-in_default-command
+bound-requires-in_default-command t c =
     let bs = c.args.bytes.now in
-    let s = signs (signed (head bs) c.takes-two.ensures c.if-takes-two.true) in
+    let s = signs (signed (head bs) c.takes_two.ensures c.if-takes_two.true) in
     (omega (arith, longer bs s.1 refl, c.decreases), begins_two s.0 bs s.1 c.requires (λ a b h. tt))
 
-pub returns-in-err-x : goal.returns-in-err-x
-returns-in-err-x t c =
-    let p = err_from_is_err_and c.from-residual-in-err-x.result c.from-residual-in-err-x.ensures.1 in
+pub returns-in_err-x-in_default-command : goal.returns-in_err-x-in_default-command
+returns-in_err-x-in_default-command t c =
+    let p = err_from_is_err_and c.from_residual-in_err-x-in_default-command.result c.from_residual-in_err-x-in_default-command.ensures.1 in
     let bs = c.args.bytes.now in
-    let s = signs (signed (head bs) c.takes-two.ensures c.if-takes-two.true) in
-    rw (p.1, p.2) (pass_two s.0 bs s.1 c.in-err-x.ensures)
+    let s = signs (signed (head bs) c.takes_two.ensures c.if-takes_two.true) in
+    rw (p.1, p.2) (pass_two s.0 bs s.1 c.in_err-x-in_default-command.ensures)
 
-pub bound-requires-in-default-command-2 : goal.bound-requires-in-default-command-2
-bound-requires-in-default-command-2 t c =
+pub bound-requires-in_default-command-2 : goal.bound-requires-in_default-command-2
+bound-requires-in_default-command-2 t c =
     let bs = c.args.bytes.now in
-    let s = signs (signed (head bs) c.takes-two.ensures c.if-takes-two.true) in
-    let w = c.in-ok-x.ensures in
+    let s = signs (signed (head bs) c.takes_two.ensures c.if-takes_two.true) in
+    let w = c.in_ok-x-in_default-command.ensures in
     let d = drops {P = Any} (tail bs) (begins_two s.0 bs s.1 c.requires (λ a b h. tt)) w in
     (omega (arith, d, longer bs s.1 refl, c.decreases), begins_two_2 s.0 bs s.1 c.requires w (λ a b h. tt))
 
-pub returns-in-err-y-2 : goal.returns-in-err-y-2
-returns-in-err-y-2 t c =
-    let p = err_from_is_err_and c.from-residual-in-err-y-2.result c.from-residual-in-err-y-2.ensures.1 in
+pub returns-in_err-y-in_default-command : goal.returns-in_err-y-in_default-command
+returns-in_err-y-in_default-command t c =
+    let p = err_from_is_err_and c.from_residual-in_err-y-in_default-command.result c.from_residual-in_err-y-in_default-command.ensures.1 in
     let bs = c.args.bytes.now in
-    let s = signs (signed (head bs) c.takes-two.ensures c.if-takes-two.true) in
-    let w = c.in-ok-x.ensures in
-    rw (p.1, p.2) (pass_two_2 s.0 bs s.1 w (drops {P = Any} (tail bs) (begins_two s.0 bs s.1 c.requires (λ a b h. tt)) w) c.in-err-y-2.ensures)
+    let s = signs (signed (head bs) c.takes_two.ensures c.if-takes_two.true) in
+    let w = c.in_ok-x-in_default-command.ensures in
+    rw (p.1, p.2) (pass_two_2 s.0 bs s.1 w (drops {P = Any} (tail bs) (begins_two s.0 bs s.1 c.requires (λ a b h. tt)) w) c.in_err-y-in_default-command.ensures)
 
-pub bound-by-n-requires : goal.bound-by-n-requires
-bound-by-n-requires t c =
+pub bound_by-n-requires : goal.bound_by-n-requires
+bound_by-n-requires t c =
     let bs = c.args.bytes.now in
-    let s = signs (signed (head bs) c.takes-two.ensures c.if-takes-two.true) in
-    let w = c.in-ok-x.ensures in
+    let s = signs (signed (head bs) c.takes_two.ensures c.if-takes_two.true) in
+    let w = c.in_ok-x-in_default-command.ensures in
     record {
       signs = ap is_sign s.1;
       first = low (tail bs) (begins_two s.0 bs s.1 c.requires (λ a b h. tt)) w;
-      second = low _ (begins_two_2 s.0 bs s.1 c.requires w (λ a b h. tt)) c.in-ok-y-2.ensures;
+      second = low _ (begins_two_2 s.0 bs s.1 c.requires w (λ a b h. tt)) c.in_ok-y-in_default-command.ensures;
     }
 
 pub returns-then-n-gt-LIMIT : goal.returns-then-n-gt-LIMIT
 returns-then-n-gt-LIMIT t c =
     let bs = c.args.bytes.now in
-    let s = signs (signed (head bs) c.takes-two.ensures c.if-takes-two.true) in
-    let w = c.in-ok-x.ensures in
-    let e : c.bound-by-n.result ≡ limited s.0 c.in-ok-x.x c.in-ok-y-2.y = c.bound-by-n.ensures ∙ ap (λ k. limited (op_in k) c.in-ok-x.x c.in-ok-y-2.y) s.1 in
-    pass_here s.0 bs s.1 w c.in-ok-y-2.ensures (subst (λ n. limit < n) e c.if-n-gt-LIMIT.true)
+    let s = signs (signed (head bs) c.takes_two.ensures c.if-takes_two.true) in
+    let w = c.in_ok-x-in_default-command.ensures in
+    let e : c.bound_by-n.result ≡ limited s.0 c.in_ok-x-in_default-command.x c.in_ok-y-in_default-command.y = c.bound_by-n.ensures ∙ ap (λ k. limited (op_in k) c.in_ok-x-in_default-command.x c.in_ok-y-in_default-command.y) s.1 in
+    pass_here s.0 bs s.1 w c.in_ok-y-in_default-command.ensures (subst (λ n. limit < n) e c.if-n-gt-LIMIT.true)
 
-pub unreachable-requires-in-default-default : goal.unreachable-requires-in-default-default
-unreachable-requires-in-default-default t c =
+pub unreachable-requires-in_default-rest : goal.unreachable-requires-in_default-rest
+unreachable-requires-in_default-rest t c =
     let bs = c.args.bytes.now in
     let h : length (tail bs) < 1 = search rules in
     omega (arith, (fair bs c.requires).one (ap command c.in-f.is), h)
@@ -135,8 +135,8 @@ pub returns-in-len1-up-rest : goal.returns-in-len1-up-rest
 returns-in-len1-up-rest t c =
     field_bounded c.args.bytes.now (ap command c.in-f.is)
 
-pub unreachable-requires-in-default-default-2 : goal.unreachable-requires-in-default-default-2
-unreachable-requires-in-default-default-2 t c =
+pub unreachable-requires-in_default-rest-2 : goal.unreachable-requires-in_default-rest-2
+unreachable-requires-in_default-rest-2 t c =
     let bs = c.args.bytes.now in
     let h : length (tail bs) < 2 = search rules in
     omega (arith, (fair bs c.requires).both (ap command c.in-c.is), h)
@@ -148,25 +148,25 @@ returns-in-len2-up t c =
     let lo : get_or (tail bs) 1 0 ≤ 255 = search rules in
     number_bounded bs (ap command c.in-c.is) hi lo
 
-pub returns-in-ok-rest : goal.returns-in-ok-rest
-returns-in-ok-rest t c =
-    one_bounded c.args.bytes.now (ap command c.in-33.is) c.in-ok-rest.ensures
+pub returns-in_ok-rest-in-33 : goal.returns-in_ok-rest-in-33
+returns-in_ok-rest-in-33 t c =
+    one_bounded c.args.bytes.now (ap command c.in-33.is) c.in_ok-rest-in-33.ensures
 
 pub returns-after-y-z : goal.returns-after-y-z
 returns-after-y-z t c =
     let bs = c.args.bytes.now in
-    let e : c.if-y-z.result ≡ max c.in-ok-y.y c.in-ok-z.z = elim c.if-y-z.branch [ then-y-z w ↦ omega (arith, w.result-is, w.if-y-z.true) | else-y-z w ↦ omega (arith, w.result-is, w.if-y-z.false) ] in
-    subst (λ n. Each (Bounded n) bs c.in-ok-z.rest.now) (sym e) (three_bounded bs (ap command c.in-63.is) c.in-ok-rest-2.ensures c.in-ok-y.ensures c.in-ok-z.ensures)
+    let e : c.if-y-z.result ≡ max c.in_ok-y-in-63.y c.in_ok-z-in-63.z = elim c.if-y-z.branch [ then-y-z w ↦ omega (arith, w.result-is, w.if-y-z.true) | else-y-z w ↦ omega (arith, w.result-is, w.if-y-z.false) ] in
+    subst (λ n. Each (Bounded n) bs c.in_ok-z-in-63.rest.now) (sym e) (three_bounded bs (ap command c.in-63.is) c.in_ok-rest-in-63.ensures c.in_ok-y-in-63.ensures c.in_ok-z-in-63.ensures)
 
 pub returns-else-n-gt-LIMIT : goal.returns-else-n-gt-LIMIT
 returns-else-n-gt-LIMIT t c =
     let bs = c.args.bytes.now in
-    let s = signs (signed (head bs) c.takes-two.ensures c.if-takes-two.true) in
-    let w = c.in-ok-x.ensures in
-    let e : c.bound-by-n.result ≡ limited s.0 c.in-ok-x.x c.in-ok-y-2.y = c.bound-by-n.ensures ∙ ap (λ k. limited (op_in k) c.in-ok-x.x c.in-ok-y-2.y) s.1 in
-    subst (λ n. Each (Bounded n) bs c.in-ok-y-2.rest.now) (sym e) (two_bounded s.0 bs s.1 w c.in-ok-y-2.ensures (subst (λ n. n ≤ limit) e c.if-n-gt-LIMIT.false))
+    let s = signs (signed (head bs) c.takes_two.ensures c.if-takes_two.true) in
+    let w = c.in_ok-x-in_default-command.ensures in
+    let e : c.bound_by-n.result ≡ limited s.0 c.in_ok-x-in_default-command.x c.in_ok-y-in_default-command.y = c.bound_by-n.ensures ∙ ap (λ k. limited (op_in k) c.in_ok-x-in_default-command.x c.in_ok-y-in_default-command.y) s.1 in
+    subst (λ n. Each (Bounded n) bs c.in_ok-y-in_default-command.rest.now) (sym e) (two_bounded s.0 bs s.1 w c.in_ok-y-in_default-command.ensures (subst (λ n. n ≤ limit) e c.if-n-gt-LIMIT.false))
 
-pub unreachable-requires-in-default-2 : goal.unreachable-requires-in-default-2
-unreachable-requires-in-default-2 t c =
+pub unreachable-requires-in_default-2 : goal.unreachable-requires-in_default-2
+unreachable-requires-in_default-2 t c =
     let bs = c.args.bytes.now in
-    (fair bs c.requires).knows (no_command (head bs) (command (head bs)) refl (sym c.takes-two.ensures ∙ c.if-takes-two.false) (λ e. omega arith) (λ e. omega arith) (λ e. omega arith) (λ e. omega arith))
+    (fair bs c.requires).knows (no_command (head bs) (command (head bs)) refl (sym c.takes_two.ensures ∙ c.if-takes_two.false) (λ e. omega arith) (λ e. omega arith) (λ e. omega arith) (λ e. omega arith))

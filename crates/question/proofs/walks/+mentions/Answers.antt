@@ -21,6 +21,6 @@ pub returns-in-len2-up : goal.returns-in-len2-up
 returns-in-len2-up t c =
     c.mentions-in-len2-up.ensures ∙ sym (at_number c.args.k c.args.bytes.now c.in-c.is (search rules))
 
-pub returns-in-default-2 : goal.returns-in-default-2
-returns-in-default-2 t c =
-    c.mentions-in-default-2.ensures ∙ sym (at_other c.args.k c.args.bytes.now (search rules) (λ e. omega arith) (λ e. omega arith))
+pub returns-in_default-2 : goal.returns-in_default-2
+returns-in_default-2 t c =
+    c.mentions-in_default-2.ensures ∙ sym (at_other c.args.k c.args.bytes.now (search rules) (λ e. omega arith) (λ e. omega arith))

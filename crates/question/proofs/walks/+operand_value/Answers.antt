@@ -18,13 +18,13 @@ value-unreachable-requires t c =
 pub value-operand-x-requires : goal.value-operand-x-requires
 value-operand-x-requires t c =
     let bs = c.args.bytes.now in
-    let s = signs (signed (head bs) c.takes-two.ensures c.if-takes-two.true) in
+    let s = signs (signed (head bs) c.takes_two.ensures c.if-takes_two.true) in
     (omega (arith, longer bs s.1 refl, c.decreases), begins_two {Q = Small} s.0 bs s.1 c.requires (λ a b h. h.0))
 
 pub value-operand-y-requires : goal.value-operand-y-requires
 value-operand-y-requires t c =
     let bs = c.args.bytes.now in
-    let s = signs (signed (head bs) c.takes-two.ensures c.if-takes-two.true) in
+    let s = signs (signed (head bs) c.takes_two.ensures c.if-takes_two.true) in
     let w = c.operand-x.ensures in
     let d = drops (tail bs) (begins_two {Q = Small} s.0 bs s.1 c.requires (λ a b h. h.0)) w in
     (omega (arith, d, longer bs s.1 refl, c.decreases), begins_two_2 {Q = Small} s.0 bs s.1 c.requires w (λ a b h. h.1))
@@ -32,7 +32,7 @@ value-operand-y-requires t c =
 pub value-apply-requires : goal.value-apply-requires
 value-apply-requires t c =
     let bs = c.args.bytes.now in
-    let s = signs (signed (head bs) c.takes-two.ensures c.if-takes-two.true) in
+    let s = signs (signed (head bs) c.takes_two.ensures c.if-takes_two.true) in
     let w = c.operand-x.ensures in
     let X = c.operand-x.result.0 in
     let Y = c.operand-y.result.0 in
@@ -43,10 +43,10 @@ value-apply-requires t c =
     let yf = fits64 Y (omega (arith, y)) in
     record { signs = ap is_sign s.1; small = rw (to_z-of_z w64 X xf, to_z-of_z w64 Y yf) (record { first = x; second = y }) }
 
-pub value-returns-then-takes-two : goal.value-returns-then-takes-two
-value-returns-then-takes-two t c =
+pub value-returns-then-takes_two : goal.value-returns-then-takes_two
+value-returns-then-takes_two t c =
     let bs = c.args.bytes.now in
-    let s = signs (signed (head bs) c.takes-two.ensures c.if-takes-two.true) in
+    let s = signs (signed (head bs) c.takes_two.ensures c.if-takes_two.true) in
     let w = c.operand-x.ensures in
     let X = c.operand-x.result.0 in
     let Y = c.operand-y.result.0 in
@@ -91,10 +91,10 @@ value-operand-z-requires t c =
     let e = drops _ (begins_three_2 {Q = Small} bs q c.requires w (λ a b c h. h.1)) v in
     (omega (arith, d, e, longer bs q refl, c.decreases), begins_three_3 {Q = Small} bs q c.requires w v (λ a b c h. h.2))
 
-pub value-unreachable-requires-in-default-command : goal.value-unreachable-requires-in-default-command
-value-unreachable-requires-in-default-command t c =
+pub value-unreachable-requires-in_default-command : goal.value-unreachable-requires-in_default-command
+value-unreachable-requires-in_default-command t c =
     let bs = c.args.bytes.now in
-    (fair bs c.requires).knows (no_command (head bs) (command (head bs)) refl (sym c.takes-two.ensures ∙ c.if-takes-two.false) (λ e. omega arith) (λ e. omega arith) (λ e. omega arith) (λ e. omega arith))
+    (fair bs c.requires).knows (no_command (head bs) (command (head bs)) refl (sym c.takes_two.ensures ∙ c.if-takes_two.false) (λ e. omega arith) (λ e. omega arith) (λ e. omega arith) (λ e. omega arith))
 
 pub value-returns-in-33 : goal.value-returns-in-33
 value-returns-in-33 t c =

@@ -13,8 +13,8 @@ same_bits (pos a) (negsuc b) h k = grind (arith, nat_tests)
 same_bits (negsuc a) (pos b) h k = grind (arith, nat_tests)
 same_bits (negsuc a) (negsuc b) h k = grind (arith, nat_tests)
 
-pub overflow-mul-result : goal.overflow-mul-result
-overflow-mul-result c =
+pub overflow_mul-result : goal.overflow_mul-result
+overflow_mul-result c =
     let x = fits64 c.args.x (omega (arith, c.requires.small.first)) in
     let y = fits64 c.args.y (omega (arith, c.requires.small.second)) in
     rw (to_z-of_z w64 c.args.x x, to_z-of_z w64 c.args.y y) (times_fits c.args.x c.args.y c.requires.small.first c.requires.small.second)

@@ -5,14 +5,14 @@ use Rattle.question.specs.Fronts.{Each, Worth}
 use Rattle.question.proofs.Operands.{tail2, longer, fair, tail_at}
 use Rattle.question.proofs.Values.{field_worth}
 use Rattle.question.proofs.walks.field_value.Goals as goal
-use Rattle.question.proofs.walks.field_value.Goals.{in-default-via-then-bytes-lt2, in-default-via-in-len2-up+else-k-le3}
+use Rattle.question.proofs.walks.field_value.Goals.{in_default-via-then-bytes-lt2, in_default-via-in-len2-up+else-k-le3}
 
 pub unreachable-requires : goal.unreachable-requires
 unreachable-requires c =
     let bs = c.args.bytes.now in
     let q = c.requires.field in
     let f = fair bs c.requires.begins in
-    elim c.in-default.branch [ in-default-via-then-bytes-lt2 w ↦ (let h : length bs < 2 = search rules in omega (arith, longer bs q refl, f.one q, h)) | in-default-via-in-len2-up+else-k-le3 w ↦ omega (arith, f.low q, tail_at bs 0, w.if-k-le3.false) ]
+    elim c.in_default.branch [ in_default-via-then-bytes-lt2 w ↦ (let h : length bs < 2 = search rules in omega (arith, longer bs q refl, f.one q, h)) | in_default-via-in-len2-up+else-k-le3 w ↦ omega (arith, f.low q, tail_at bs 0, w.if-k-le3.false) ]
 
 pub returns : goal.returns
 returns c =

@@ -8,8 +8,8 @@ use Rattle.question.proofs.checked.calls.keep.Goals as goal
 pub padded-requires : goal.padded-requires
 padded-requires c = (asked c.args.bytes.now c.requires).short
 
-pub invariant-of-result : goal.invariant-of-result
-invariant-of-result c = ((asked c.args.bytes.now c.requires).short, (ap is_question c.padded.ensures ∙ c.requires, tt))
+pub invariant_of-result : goal.invariant_of-result
+invariant_of-result c = record { fits = (asked c.args.bytes.now c.requires).short; asked = ap is_question c.padded.ensures ∙ c.requires }
 
 pub returns : goal.returns
 unfolding text
