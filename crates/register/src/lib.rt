@@ -20,7 +20,7 @@ pub struct Register<'a, E> {
 impl<'a, E: Coded> Register<'a, E> {
     // The register over the entries, each of them free.
     pub fn new(entries: &'a mut [E]) -> Self
-        ensures freed { result.entries.now ≡ map (recoded 0) entries.old }
+        ensures freed { result.entries.now ≡ map (E.recoded 0) entries.old }
         ensures lent { result.entries.ghost_name ≡ entries.entry.ghost_name }
     {
         for e in entries.iter_mut() {
@@ -31,9 +31,9 @@ impl<'a, E: Coded> Register<'a, E> {
 
     // The place of the first entry that has the code; code 0 has none.
     pub fn place(&self, code: u16) -> Option<usize>
-        ensures found { result ≡ place key code self.now.entries.now }
+        ensures found { result ≡ place E.key code self.now.entries.now }
         ensures within { IfSome result (λ i. i < length self.now.entries.now) }
-        ensures exact { Looked key code self.now.entries.now result }
+        ensures exact { Looked E.key code self.now.entries.now result }
     {
         if code == 0 {
             None
@@ -44,10 +44,10 @@ impl<'a, E: Coded> Register<'a, E> {
 
     // The first place that is free.
     pub fn free_place(&self) -> Option<usize>
-        ensures found { result ≡ vacant key self.now.entries.now }
+        ensures found { result ≡ vacant E.key self.now.entries.now }
         ensures within { IfSome result (λ i. i < length self.now.entries.now) }
-        ensures exact { Sought key 0 self.now.entries.now result }
-        ensures once { Once key }
+        ensures exact { Sought E.key 0 self.now.entries.now result }
+        ensures once { Once E.key }
     {
         find(self.entries, 0)
     }
@@ -67,24 +67,24 @@ impl<'a, E: Coded> Register<'a, E> {
 
 // Frees an entry.
 fn free<E: Coded>(entry: &mut E)
-    ensures { entry.new ≡ recoded 0 entry.old }
+    ensures { entry.new ≡ E.recoded 0 entry.old }
 {
     entry.set_code(0);
 }
 
 // The place of the first entry that has the code, by the definition.
 fn find<E: Coded>(entries: &[E], code: u16) -> Option<usize>
-    ensures found { result ≡ first key code entries.now }
+    ensures found { result ≡ first E.key code entries.now }
     ensures within { IfSome result (λ i. i < length entries.now) }
-    ensures exact { Sought key code entries.now result }
-    ensures once { Once key }
+    ensures exact { Sought E.key code entries.now result }
+    ensures once { Once E.key }
 {
     scan(entries, code)
 }
 
 // The place of the first entry that has the code, by the law.
 fn scan<E: Coded>(entries: &[E], code: u16) -> Option<usize>
-    ensures { MatchOption result (Absent key code entries.now) (First key code entries.now) }
+    ensures { MatchOption result (Absent E.key code entries.now) (First E.key code entries.now) }
 {
     for (i, e) in entries.iter().enumerate() {
         if e.code() == code {
