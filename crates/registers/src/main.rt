@@ -20,7 +20,7 @@ fn main(rt: HostRuntime) -> io::Result<()> {
 
 // The first free place takes the entry, unless its code is 0 or has a place already.
 fn enter<E: Coded + Copy>(register: &mut Register<'_, E>, entry: E) -> Option<usize>
-    ensures reply { result ≡ entered key entry register.old.entries.now }
+    ensures reply { result ≡ entered E.key entry register.old.entries.now }
     ensures after { register.new.entries.now ≡ leaves result entry register.old.entries.now }
 {
     if entry.code() == 0 {
