@@ -31,14 +31,14 @@ impl Cabinet {
         code: u16,
         question: &[u8],
     ) -> Result<u8, Refusal>
-        ensures result { reply result ≡ asking (understood means (state self.old register.old.entries.now audit.old)) code question.now }
-        ensures memory { understood means (state self.new register.new.entries.now audit.new)
-            ≡ after_asking (understood means (state self.old register.old.entries.now audit.old)) code question.now (reply result) }
+        ensures result { reply result ≡ asking (understood B.means (state self.old register.old.entries.now audit.old)) code question.now }
+        ensures memory { understood B.means (state self.new register.new.entries.now audit.new)
+            ≡ after_asking (understood B.means (state self.old register.old.entries.now audit.old)) code question.now (reply result) }
         ensures others { Others code (reply result) register.old.entries.now register.new.entries.now }
         ensures lent { register.new.entries.ghost_name ≡ register.old.entries.ghost_name }
-        ensures runs { GoesOn (understood means (state self.old register.old.entries.now audit.old))
+        ensures runs { GoesOn (understood B.means (state self.old register.old.entries.now audit.old))
             (asks code question.now (reply result))
-            (understood means (state self.new register.new.entries.now audit.new)) }
+            (understood B.means (state self.new register.new.entries.now audit.new)) }
     {
         self.serve(register, audit, code, question)
     }
@@ -51,9 +51,9 @@ impl Cabinet {
         code: u16,
         question: &[u8],
     ) -> Result<u8, Refusal>
-        ensures result { reply result ≡ asking (understood means (state self.old register.old.entries.now audit.old)) code question.now }
-        ensures memory { understood means (state self.new register.new.entries.now audit.new)
-            ≡ after_asking (understood means (state self.old register.old.entries.now audit.old)) code question.now (reply result) }
+        ensures result { reply result ≡ asking (understood B.means (state self.old register.old.entries.now audit.old)) code question.now }
+        ensures memory { understood B.means (state self.new register.new.entries.now audit.new)
+            ≡ after_asking (understood B.means (state self.old register.old.entries.now audit.old)) code question.now (reply result) }
         ensures others { Others code (reply result) register.old.entries.now register.new.entries.now }
         ensures lent { register.new.entries.ghost_name ≡ register.old.entries.ghost_name }
     {
@@ -96,9 +96,9 @@ impl Cabinet {
         audit: &[u8],
         question: &[u8],
     ) -> Result<u8, Refusal>
-        requires { (means folder.now.belief).sound ≡ true }
-        ensures result { (fs : List (Folder B)) (code : ℕ) → reply result ≡ answering (understood means (state self.now fs audit.now)) code question.now (meant means folder.now) }
-        ensures ready { Ready self.now audit.now question.now (meant means folder.now) (reply result) }
+        requires { (B.means folder.now.belief).sound ≡ true }
+        ensures result { (fs : List (Folder B)) (code : ℕ) → reply result ≡ answering (understood B.means (state self.now fs audit.now)) code question.now (meant B.means folder.now) }
+        ensures ready { Ready self.now audit.now question.now (meant B.means folder.now) (reply result) }
     {
         let answer = Question::read(question)?.answer(self.sheet);
         if self.short(audit, HEAD + question.len()) {
@@ -116,11 +116,11 @@ fn hear<B: Belief>(
     answer: u8,
 ) -> Result<(), Refusal>
     requires within { at < length register.old.entries.now }
-    requires sound { (f : Folder B) → (means (slice_index_or register.old.entries.now at f).belief).sound ≡ true }
-    requires ready { (f : Folder B) → revising (means (slice_index_or register.old.entries.now at f).belief) question.now answer ≡ given tt }
+    requires sound { (f : Folder B) → (B.means (slice_index_or register.old.entries.now at f).belief).sound ≡ true }
+    requires ready { (f : Folder B) → revising (B.means (slice_index_or register.old.entries.now at f).belief) question.now answer ≡ given tt }
     ensures result { reply result ≡ given tt }
     ensures memory { (code : ℕ) → first (λ f. f.code) code register.old.entries.now ≡ Some at →
-        map (meant means) register.new.entries.now ≡ changed code (hearing question.now answer) (map (meant means) register.old.entries.now) }
+        map (meant B.means) register.new.entries.now ≡ changed code (hearing question.now answer) (map (meant B.means) register.old.entries.now) }
     ensures others { (code : ℕ) → first (λ f. f.code) code register.old.entries.now ≡ Some at →
         Others code (given answer) register.old.entries.now register.new.entries.now }
     ensures lent { register.new.entries.ghost_name ≡ register.old.entries.ghost_name }

@@ -12,7 +12,7 @@ use register::Register;
 impl Cabinet {
     // Whether a belief is sound and about the cabinet's fields.
     pub(crate) fn fits<B: Belief>(&self, belief: &B) -> bool
-        ensures { result ≡ fitting self.now.count self.now.tops (means belief.now) }
+        ensures { result ≡ fitting self.now.count self.now.tops (B.means belief.now) }
     {
         belief.sound()
             && belief.first() == 0
@@ -26,8 +26,8 @@ impl Cabinet {
         register: &Register<'_, Folder<B>>,
         code: u16,
     ) -> Result<usize, Refusal>
-        ensures { MatchResult result (Found means self.now register.now.entries.now code)
-            (Missing means self.now register.now.entries.now code) }
+        ensures { MatchResult result (Found B.means self.now register.now.entries.now code)
+            (Missing B.means self.now register.now.entries.now code) }
     {
         let Some(at) = register.place(code) else {
             return Err(Refusal::Code);

@@ -29,13 +29,13 @@ impl Cabinet {
         d: u16,
         belief: B,
     ) -> Result<usize, Refusal>
-        ensures result { reply result ≡ enrolling (understood means (state self.old register.old.entries.now audit.old)) letter (filed code n d (means belief)) }
+        ensures result { reply result ≡ enrolling (understood B.means (state self.old register.old.entries.now audit.old)) B.letter (filed code n d (B.means belief)) }
         ensures memory { state self.new register.new.entries.now audit.new
-            ≡ after_enrolling (state self.old register.old.entries.now audit.old) letter (filed code n d belief) (reply result) }
+            ≡ after_enrolling (state self.old register.old.entries.now audit.old) B.letter (filed code n d belief) (reply result) }
         ensures lent { register.new.entries.ghost_name ≡ register.old.entries.ghost_name }
-        ensures runs { GoesOn (understood means (state self.old register.old.entries.now audit.old))
-            (enrols (offering letter (filed code n d (means belief))) (reply result))
-            (understood means (state self.new register.new.entries.now audit.new)) }
+        ensures runs { GoesOn (understood B.means (state self.old register.old.entries.now audit.old))
+            (enrols (offering B.letter (filed code n d (B.means belief))) (reply result))
+            (understood B.means (state self.new register.new.entries.now audit.new)) }
     {
         self.admit(register, audit, code, n, d, belief)
     }
@@ -50,9 +50,9 @@ impl Cabinet {
         d: u16,
         belief: B,
     ) -> Result<usize, Refusal>
-        ensures result { reply result ≡ enrolling (understood means (state self.old register.old.entries.now audit.old)) letter (filed code n d (means belief)) }
+        ensures result { reply result ≡ enrolling (understood B.means (state self.old register.old.entries.now audit.old)) B.letter (filed code n d (B.means belief)) }
         ensures memory { state self.new register.new.entries.now audit.new
-            ≡ after_enrolling (state self.old register.old.entries.now audit.old) letter (filed code n d belief) (reply result) }
+            ≡ after_enrolling (state self.old register.old.entries.now audit.old) B.letter (filed code n d belief) (reply result) }
         ensures lent { register.new.entries.ghost_name ≡ register.old.entries.ghost_name }
     {
         if !is_threshold(n, d) {
@@ -91,14 +91,14 @@ fn is_threshold(n: u16, d: u16) -> bool
 
 // Whether no restorer can be enrolled under a code: it is nobody's, or one has it.
 fn is_taken<B: Belief>(register: &Register<'_, Folder<B>>, code: u16) -> bool
-    ensures { result ≡ (code == 0 || is_some (coded code (map (meant means) register.now.entries.now))) }
+    ensures { result ≡ (code == 0 || is_some (coded code (map (meant B.means) register.now.entries.now))) }
 {
     code == 0 || register.place(code).is_some()
 }
 
 // The first free place.
 fn vacancy<B: Belief>(register: &Register<'_, Folder<B>>) -> Option<usize>
-    ensures is { result ≡ vacant (λ f. f.code) (map (meant means) register.now.entries.now) }
+    ensures is { result ≡ vacant (λ f. f.code) (map (meant B.means) register.now.entries.now) }
     ensures found { result ≡ vacant (λ f. f.code) register.now.entries.now }
 {
     register.free_place()

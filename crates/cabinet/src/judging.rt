@@ -17,9 +17,9 @@ pub(crate) fn judge<B: Belief>(
     question: &[u8],
     answer: u8,
 ) -> Result<u8, Refusal>
-    requires sound { (means folder.now.belief).sound ≡ true }
+    requires sound { (B.means folder.now.belief).sound ≡ true }
     requires small { answer ≤ greatest }
-    ensures { reply result ≡ and_then (reading question.now) (λ e. judging (meant means folder.now) question.now answer) }
+    ensures { reply result ≡ and_then (reading question.now) (λ e. judging (meant B.means folder.now) question.now answer) }
 {
     if !folder.belief.carries(question)? {
         return Err(Refusal::NotCarried);

@@ -19,10 +19,10 @@ impl Cabinet {
         register: &Register<'_, Folder<B>>,
         code: u16,
     ) -> Result<View, Refusal>
-        ensures result { reply result ≡ looking self.now (map (meant means) register.now.entries.now) code }
+        ensures result { reply result ≡ looking self.now (map (meant B.means) register.now.entries.now) code }
         ensures memory { register.now.entries.now ≡ register.now.entries.now }
-        ensures runs { (audit : List ℕ) → GoesOn (understood means (state self.now register.now.entries.now audit))
-            (looks code (mapped viewed (reply result))) (understood means (state self.now register.now.entries.now audit)) }
+        ensures runs { (audit : List ℕ) → GoesOn (understood B.means (state self.now register.now.entries.now audit))
+            (looks code (mapped viewed (reply result))) (understood B.means (state self.now register.now.entries.now audit)) }
     {
         self.show(register, code)
     }
@@ -33,7 +33,7 @@ impl Cabinet {
         register: &Register<'_, Folder<B>>,
         code: u16,
     ) -> Result<View, Refusal>
-        ensures { reply result ≡ looking self.now (map (meant means) register.now.entries.now) code }
+        ensures { reply result ≡ looking self.now (map (meant B.means) register.now.entries.now) code }
     {
         let at = self.known(register, code)?;
         let folders = &*register.entries;

@@ -14,8 +14,8 @@ loop-a-preserved g c =
     let q = c.args.question.now in
     let a = c.loop-a.a in
     let f = c.args.folder.now in
-    let mass = value_is m q _ (mass_of m q a) (c.in-ok-mass.ensures c.requires.sound) in
-    let most = value_is m q _ (heaviest_of m q a) (c.in-ok-heaviest.ensures c.requires.sound) in (
+    let mass = value_is m q _ (mass_of m q a) (c.in_ok-mass.ensures c.requires.sound) in
+    let most = value_is m q _ (heaviest_of m q a) (c.in_ok-heaviest.ensures c.requires.sound) in (
       own_more (λ k. ltb 0 (mass_of m q k)) c.args.answer a _ _ c.loop-a.invariant.0 (ap (ltb 0) mass),
       some_more (is_telling_at m q f.n f.d) a _ _ c.loop-a.invariant.1
           (telling_is m q f.n f.d a _ _ _ c.tells.ensures mass most),

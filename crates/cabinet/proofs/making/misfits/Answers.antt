@@ -6,4 +6,4 @@ pub loop-k-init : goal.loop-k-init
 loop-k-init c = some_none _
 
 pub loop-k-preserved : goal.loop-k-preserved
-loop-k-preserved c = some_more (misfit c.args.count c.args.tops c.args.sheet) _ _ _ c.loop-k.invariant c.misfits-at-found.ensures
+loop-k-preserved c = some_more (misfit c.args.count c.args.tops c.args.sheet) _ _ _ c.loop-k.invariant c.misfits_at-found.ensures

@@ -6,11 +6,11 @@ use Rattle.cabinet.proofs.sessions.session.Goals as goal
 pub returns : goal.returns
 returns g c =
     let m = g.B.Belief.means in
-    let made = c.in-ok-cabinet.ensures in
+    let made = c.in_ok-cabinet.ensures in
     let h = events m g.B.Belief.letter c.args.calls.now c.run.new.returns [] in
     record {
       result = ap outcome made.result;
-      served = session_served m c.args.count c.args.tops c.args.sheet c.in-ok-cabinet.cabinet c.run.new.self
+      served = session_served m c.args.count c.args.tops c.args.sheet c.in_ok-cabinet.cabinet c.run.new.self
           c.args.folders.now c.new-register.result.entries.now c.run.new.register.entries.now _ c.args.audit.now c.run.new.audit h
           made.result made.begins c.new-register.ensures.freed (search rules) (λ w x bytes. c.run.ensures.stands w x bytes []) c.run.ensures.memory;
       others = c.run.ensures.others;

@@ -10,11 +10,11 @@ use Rattle.cabinet.specs.Memory.{State, state, understood, meant}
 use Rattle.cabinet.proofs.Weighed.{quiet, unread, weighed, has_room, ready}
 use Rattle.cabinet.proofs.cabinets.Cabinet.weigh.Goals as goal
 
-pub returns-in-err-read : goal.returns-in-err-read
-returns-in-err-read g c =
-    let p = err_from_is_err_and c.from-residual.result c.from-residual.ensures.1 in
+pub returns-in_err-read : goal.returns-in_err-read
+returns-in_err-read g c =
+    let p = err_from_is_err_and c.from_residual.result c.from_residual.ensures.1 in
     let q = c.args.question.now in
-    let no = read_refused q c.in-err-read.ensures.gives in
+    let no = read_refused q c.in_err-read.ensures.gives in
     rw (p.1, p.2) (record {
       result = λ fs code. unread (understood g.B.Belief.means (state c.args.self.now fs c.args.audit.now)) q (meant g.B.Belief.means c.args.folder.now) code _ _ no;
       ready = λ h. absurd (both_ways _ (quiet _ (unread-number q _ _ (sym no))) h);
@@ -27,7 +27,7 @@ pub returns : goal.returns
 returns g c =
     let q = c.args.question.now in
     let f = meant g.B.Belief.means c.args.folder.now in
-    let gives = c.in-ok-read.ensures.gives in
+    let gives = c.in_ok-read.ensures.gives in
     let read = read_as q gives in
     let own : c.answer-answer.result ≡ answers q c.args.self.now.sheet = c.answer-answer.ensures ∙ ap (λ t. answers t c.args.self.now.sheet) (read_text q gives) in
     let s : State Meaning = state c.args.self.now [] c.args.audit.now in
