@@ -6,8 +6,8 @@ use Rattle.cabinet.specs.Memory.{State, state, understood, logged}
 use Rattle.cabinet.proofs.Weighed.{replies, same_state}
 use Rattle.cabinet.proofs.cabinets.Cabinet.serve.Goals as goal
 
-pub returns-in_ok-hear : goal.returns-in_ok-hear
-returns-in_ok-hear g c =
+pub returns-in_ok-hear-in-Ok : goal.returns-in_ok-hear-in-Ok
+returns-in_ok-hear-in-Ok g c =
     let fs = c.args.register.now.entries.now in
     let found = c.in_ok-at.ensures in
     let s : State Meaning = understood g.B.Belief.means (state c.args.self.now fs c.args.audit.now) in
