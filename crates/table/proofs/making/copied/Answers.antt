@@ -3,4 +3,4 @@ use Rattle.table.proofs.Loops.{front}
 use Rattle.table.proofs.making.copied.Goals as goal
 
 pub returns : goal.returns
-returns c = front _ _ _ c.copy-from-slice.ensures.after
+returns c = front _ _ _ c.copy_from_slice.ensures.after

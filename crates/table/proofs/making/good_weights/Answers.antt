@@ -10,11 +10,11 @@ unfolding all_below
 loop-w-init c = refl
 
 pub loop-w-preserved : goal.loop-w-preserved
-loop-w-preserved c = all_more _ _ c.loop-w.invariant (sym c.good-weight.ensures ∙ c.if-not-good-weight.false)
+loop-w-preserved c = all_more _ _ c.loop-w.invariant (sym c.good_weight.ensures ∙ c.if-not-good_weight.false)
 
-pub returns-then-not-good-weight : goal.returns-then-not-good-weight
+pub returns-then-not-good_weight : goal.returns-then-not-good_weight
 unfolding good_weights
-returns-then-not-good-weight c = sym (all_fails _ _ c.loop-w.w-index c.loop-w-test.true (sym c.good-weight.ensures ∙ c.if-not-good-weight.true))
+returns-then-not-good_weight c = sym (all_fails _ _ c.loop-w.w-index c.loop-w-test.true (sym c.good_weight.ensures ∙ c.if-not-good_weight.true))
 
 pub returns : goal.returns
 unfolding good_weights

@@ -13,4 +13,4 @@ pub returns-then-w-b : goal.returns-then-w-b
 returns-then-w-b c = λ i s r. next_second c.args.tops c.args.sheet i (search rules) s c.if-y-d.false c.if-x-c.false c.if-w-b.true
 
 pub returns : goal.returns
-returns c = λ i s r. next_first c.args.tops c.args.sheet i (search rules) s c.if-y-d.false c.if-x-c.false c.if-w-b.false r _ c.saturating-add.ensures (search rules)
+returns c = λ i s r. next_first c.args.tops c.args.sheet i (search rules) s c.if-y-d.false c.if-x-c.false c.if-w-b.false r _ c.saturating_add.ensures (search rules)

@@ -10,11 +10,11 @@ unfolding all_below
 loop-k-init c = refl
 
 pub loop-k-preserved : goal.loop-k-preserved
-loop-k-preserved c = all_more _ _ c.loop-k.invariant (sym c.top-stands.ensures ∙ c.if-not-top-stands.false)
+loop-k-preserved c = all_more _ _ c.loop-k.invariant (sym c.top_stands.ensures ∙ c.if-not-top_stands.false)
 
-pub returns-then-not-top-stands : goal.returns-then-not-top-stands
+pub returns-then-not-top_stands : goal.returns-then-not-top_stands
 unfolding zero_outside
-returns-then-not-top-stands c = sym (all_fails 4 _ c.loop-k.k c.loop-k-test.true (sym c.top-stands.ensures ∙ c.if-not-top-stands.true))
+returns-then-not-top_stands c = sym (all_fails 4 _ c.loop-k.k c.loop-k-test.true (sym c.top_stands.ensures ∙ c.if-not-top_stands.true))
 
 pub returns : goal.returns
 unfolding zero_outside

@@ -11,9 +11,9 @@ returns c =
     let t = c.args.tops in
     let ws = c.args.weights.now in
     let g : Good f n t ws = record {
-      span = sym c.good-span.ensures ∙ c.if-not-good-span.false;
-      zeros = sym c.zero-outside.ensures ∙ c.if-not-zero-outside.false;
-      weights = sym c.good-list.ensures ∙ c.if-not-good-list.false;
+      span = sym c.good_span.ensures ∙ c.if-not-good_span.false;
+      zeros = sym c.zero_outside.ensures ∙ c.if-not-zero_outside.false;
+      weights = sym c.good_list.ensures ∙ c.if-not-good_list.false;
       four = search rules;
     } in
     let same = table_copied f n t ws g c.copied.result c.copied.ensures in

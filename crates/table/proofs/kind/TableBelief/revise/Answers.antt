@@ -14,14 +14,14 @@ returns c =
     let u = c.keep.new.self in
     let q = c.args.question.now in
     let a = c.args.answer in
-    let got = c.in-ok-question.ensures in
+    let got = c.in_ok-question.ensures in
     let known = replied_carried (meaning t) q _ _ got in
     let same = replied_value (meaning t) q _ _ got in
-    let some : 1 ≤ c.mass-of.result = let d = c.if-mass-of-eq0.false in omega arith in
+    let some : 1 ≤ c.mass_of.result = let d = c.if-mass_of-eq0.false in omega arith in
     record {
-      replies = λ e. revising_ok (meaning t) q known.expression known.reads a _ known.carried (c.mass-of.ensures (shaped_is t e) ∙ ap (λ z. mass_of (meaning t) z a) same) some;
+      replies = λ e. revising_ok (meaning t) q known.expression known.reads a _ known.carried (c.mass_of.ensures (shaped_is t e) ∙ ap (λ z. mass_of (meaning t) z a) same) some;
       leaves = λ e.
-          let m : c.mass-of.result ≡ mass_of (meaning t) q a = c.mass-of.ensures (shaped_is t e) ∙ ap (λ z. mass_of (meaning t) z a) same in
+          let m : c.mass_of.result ≡ mass_of (meaning t) q a = c.mass_of.ensures (shaped_is t e) ∙ ap (λ z. mass_of (meaning t) z a) same in
           kept_revised t u q a e known.carried (omega arith) (subst (λ z. Kept z a t u) same c.keep.ensures);
       keeps = λ z. impossible false refl z;
     }

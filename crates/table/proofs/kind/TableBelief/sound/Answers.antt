@@ -4,8 +4,8 @@ use Rattle.belief.specs.Meaning.{total_of}
 use Rattle.table.specs.Tables.{good_total, meaning}
 use Rattle.table.proofs.kind.TableBelief.sound.Goals as goal
 
-pub returns-then-is-shaped : goal.returns-then-is-shaped
+pub returns-then-is_shaped : goal.returns-then-is_shaped
 unfolding total_of
-returns-then-is-shaped c =
-    let e = sym c.is-shaped.ensures ∙ c.if-is-shaped.true in
-    c.good-total.ensures ∙ ap good_total (c.sum.ensures (record { is = e })) ∙ ap (λ b. b && good_total (total_of (meaning c.args.self.now))) (sym e)
+returns-then-is_shaped c =
+    let e = sym c.is_shaped.ensures ∙ c.if-is_shaped.true in
+    c.good_total.ensures ∙ ap good_total (c.sum.ensures (record { is = e })) ∙ ap (λ b. b && good_total (total_of (meaning c.args.self.now))) (sym e)

@@ -11,13 +11,13 @@ unfolding all_below
 loop-w-init c = refl
 
 pub loop-w-preserved : goal.loop-w-preserved
-loop-w-preserved c = all_more _ _ c.loop-w.invariant (sym c.is-possible.ensures ∙ c.if-not-is-possible.false)
+loop-w-preserved c = all_more _ _ c.loop-w.invariant (sym c.is_possible.ensures ∙ c.if-not-is_possible.false)
 
-pub returns-then-not-is-possible : goal.returns-then-not-is-possible
-returns-then-not-is-possible c = λ e.
+pub returns-then-not-is_possible : goal.returns-then-not-is_possible
+returns-then-not-is_possible c = λ e.
     let us = c.held-held.result.now in
     whole_walked c.args.self.now (shaped_is c.args.self.now e) us (length us)
-    (record { held = c.held-held.ensures.are; done = omega arith; most = omega arith }) _ (sym (all_fails _ _ c.loop-w.w-index c.loop-w-test.true (sym c.is-possible.ensures ∙ c.if-not-is-possible.true)))
+    (record { held = c.held-held.ensures.are; done = omega arith; most = omega arith }) _ (sym (all_fails _ _ c.loop-w.w-index c.loop-w-test.true (sym c.is_possible.ensures ∙ c.if-not-is_possible.true)))
 
 pub returns : goal.returns
 returns c = λ e.
