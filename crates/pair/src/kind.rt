@@ -124,7 +124,7 @@ fn product(left: u64, right: u64) -> u64
 
 // Whether all fields that a question reads are those of a sound belief.
 fn reads_only<B: Belief>(belief: &B, question: &Question) -> bool
-    ensures { (means belief.now).sound ≡ true → result ≡ within (means belief.now) (text question.now) }
+    ensures { (B.Belief.means belief.now).sound ≡ true → result ≡ within (B.Belief.means belief.now) (text question.now) }
 {
     question.reads_in(belief.first(), belief.count())
 }

@@ -14,7 +14,7 @@ returns g c = λ e.
     let u = c.tops.result in
     let v = c.tops-2.result in
     four_tops l r p _ _ _ _
-    (tops_fit l r p 0 (get_or u 0 0) (get_or v 0 0) _ (ap (λ z. get_or z 0 0) a) (ap (λ z. get_or z 0 0) b) (search rules) (search rules) c.saturating-add.ensures _ refl)
-    (tops_fit l r p 1 (get_or u 1 0) (get_or v 1 0) _ (ap (λ z. get_or z 1 0) a) (ap (λ z. get_or z 1 0) b) (search rules) (search rules) c.saturating-add-2.ensures _ refl)
-    (tops_fit l r p 2 (get_or u 2 0) (get_or v 2 0) _ (ap (λ z. get_or z 2 0) a) (ap (λ z. get_or z 2 0) b) (search rules) (search rules) c.saturating-add-3.ensures _ refl)
-    (tops_fit l r p 3 (get_or u 3 0) (get_or v 3 0) _ (ap (λ z. get_or z 3 0) a) (ap (λ z. get_or z 3 0) b) (search rules) (search rules) c.saturating-add-4.ensures _ refl)
+    (tops_fit l r p 0 (get_or u 0 0) (get_or v 0 0) _ (ap (λ z. get_or z 0 0) a) (ap (λ z. get_or z 0 0) b) (search rules) (search rules) c.saturating_add.ensures _ refl)
+    (tops_fit l r p 1 (get_or u 1 0) (get_or v 1 0) _ (ap (λ z. get_or z 1 0) a) (ap (λ z. get_or z 1 0) b) (search rules) (search rules) c.saturating_add-2.ensures _ refl)
+    (tops_fit l r p 2 (get_or u 2 0) (get_or v 2 0) _ (ap (λ z. get_or z 2 0) a) (ap (λ z. get_or z 2 0) b) (search rules) (search rules) c.saturating_add-3.ensures _ refl)
+    (tops_fit l r p 3 (get_or u 3 0) (get_or v 3 0) _ (ap (λ z. get_or z 3 0) a) (ap (λ z. get_or z 3 0) b) (search rules) (search rules) c.saturating_add-4.ensures _ refl)
