@@ -1,5 +1,5 @@
 -- What revising and leaning do to the weights, and what they keep.
-use Rattle.std.proofs.Common.{◌≡◌, ℕ, suc, ◌+◌, ◌-◌, ◌*◌, ◌≤◌, Bool, true, false, cond, ◌&&◌, eqb, ltb, List, [], ◌∷◌, map, length, get_or, drop, filter, sym, refl, ap, ◌∙◌, add-mul, mul-le-mul, zero-mul, arith, drop-cons}
+use Rattle.std.proofs.Common.{◌≡◌, ℕ, suc, ◌+◌, ◌*◌, ◌≤◌, Bool, true, false, cond, ◌&&◌, eqb, ltb, List, [], ◌∷◌, map, length, get_or, drop, filter, sym, refl, ap, ◌∙◌, add-mul, mul-le-mul, zero-mul, arith, drop-cons}
 use Rattle.question.specs.Steps.{Agree}
 use Rattle.question.specs.Questions.{answers, is_stepped, steps_of}
 use Rattle.question.proofs.Questions.{and_right, answers_agree, steps_four}

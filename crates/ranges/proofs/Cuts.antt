@@ -1,5 +1,5 @@
 -- What a cut does to a box.
-use Rattle.std.proofs.Common.{◌≡◌, ℕ, zero, suc, ◌-◌, ◌<◌, ◌≤◌, Bool, true, false, not, ◌&&◌, ltb, leb, List, [], ◌∷◌, length, get_or, refl, ap, ◌∙◌, arith, ltb-true, le-leb, leb-true}
+use Rattle.std.proofs.Common.{◌≡◌, ℕ, zero, suc, ◌<◌, ◌≤◌, Bool, true, false, not, ◌&&◌, ltb, leb, List, [], ◌∷◌, length, get_or, refl, ap, ◌∙◌, arith, ltb-true, le-leb, leb-true}
 use Rattle.std.proofs.lemmas.Bool.{and_from}
 use Rattle.question.proofs.Questions.{and_left, and_right}
 use Rattle.ranges.specs.declared.shapes.Side.{Side}
