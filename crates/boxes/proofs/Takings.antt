@@ -1,5 +1,5 @@
 -- What takers make of one piece, and of many.
-use Rattle.std.proofs.Common.{◌≡◌, ℕ, ◌+◌, ◌-◌, ◌*◌, ◌<◌, ◌≤◌, min, max, Bool, true, false, cond, eqb, ltb, List, get_or, set, sym, ap, ◌∙◌, le-ltb, lt-ltb}
+use Rattle.std.proofs.Common.{◌≡◌, ℕ, ◌+◌, ◌*◌, ◌<◌, ◌≤◌, min, max, Bool, true, false, cond, eqb, ltb, List, get_or, set, sym, ap, ◌∙◌, le-ltb, lt-ltb}
 use Rattle.question.specs.declared.checked.Question.{Question}
 use Rattle.question.specs.Questions.{answers}
 use Rattle.question.specs.Texts.{text}

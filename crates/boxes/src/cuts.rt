@@ -68,7 +68,7 @@ fn upper_of(b: WeightedBox, k: usize, v: u8) -> WeightedBox
 
 // Hands on the pieces of a box under some steps.
 fn hand_pieces<T: Taker>(steps: &[Step], b: WeightedBox, out: &mut T)
-    ensures { out.new ≡ fold taken out.old (cut steps.now b) }
+    ensures { out.new ≡ fold T.taken out.old (cut steps.now b) }
 {
     let [step, rest @ ..] = steps else {
         out.take(b);
@@ -86,7 +86,7 @@ fn hand_pieces<T: Taker>(steps: &[Step], b: WeightedBox, out: &mut T)
 
 // Hands on the pieces of all boxes under some steps.
 pub(crate) fn hand_all<T: Taker>(steps: &[Step], boxes: &[WeightedBox], out: &mut T)
-    ensures { out.new ≡ fold taken out.old (cut_all steps.now boxes.now) }
+    ensures { out.new ≡ fold T.taken out.old (cut_all steps.now boxes.now) }
 {
     for b in boxes {
         hand_pieces(steps, *b, out);

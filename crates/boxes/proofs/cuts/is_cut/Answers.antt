@@ -11,6 +11,6 @@ pub returns : goal.returns
 returns c =
     let l : length c.args.sides ≡ 4 = search rules in
     record {
-      is = c.cuts-side.ensures.is ∙ cut_at c.args.sides c.args.k c.args.v (omega arith);
-      small = λ e. let s = c.cuts-side.ensures.small e in (s.0, s.1, c.if-k-ge4.false);
+      is = c.cuts_side.ensures.is ∙ cut_at c.args.sides c.args.k c.args.v (omega arith);
+      small = λ e. let s = c.cuts_side.ensures.small e in (s.0, s.1, c.if-k-ge4.false);
     }

@@ -6,5 +6,5 @@ use Rattle.boxes.proofs.cuts.upper_of.Goals as goal
 
 pub returns : goal.returns
 returns c =
-    ap (λ x. record { sides = set c.args.b.sides c.args.k x; weight = c.args.b.weight }) c.above-of.ensures
+    ap (λ x. record { sides = set c.args.b.sides c.args.k x; weight = c.args.b.weight }) c.above_of.ensures
     ∙ ap (λ xs. record { sides = xs; weight = c.args.b.weight }) (part_at (λ x. above x c.args.v) c.args.b.sides c.args.k)

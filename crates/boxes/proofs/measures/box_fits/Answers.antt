@@ -4,4 +4,4 @@ use Rattle.boxes.specs.Fours.{four_fits}
 use Rattle.boxes.proofs.measures.box_fits.Goals as goal
 
 pub returns : goal.returns
-returns c = four_fits c.args.tops c.args.sides (search rules) (search rules) _ _ _ _ c.side-fits.ensures c.side-fits-2.ensures c.side-fits-3.ensures c.side-fits-4.ensures
+returns c = four_fits c.args.tops c.args.sides (search rules) (search rules) _ _ _ _ c.side_fits.ensures c.side_fits-2.ensures c.side_fits-3.ensures c.side_fits-4.ensures

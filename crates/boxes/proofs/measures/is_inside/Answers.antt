@@ -4,4 +4,4 @@ use Rattle.boxes.specs.Fours.{four_inside}
 use Rattle.boxes.proofs.measures.is_inside.Goals as goal
 
 pub returns : goal.returns
-returns c = four_inside c.args.sides c.args.sheet (search rules) (search rules) _ _ _ _ c.is-within.ensures c.is-within-2.ensures c.is-within-3.ensures c.is-within-4.ensures
+returns c = four_inside c.args.sides c.args.sheet (search rules) (search rules) _ _ _ _ c.is_within.ensures c.is_within-2.ensures c.is_within-3.ensures c.is_within-4.ensures

@@ -13,7 +13,7 @@ loop-i-preserved c =
     let bs = c.args.boxes.now in
     let i = c.loop-i.i in
     test_more disjoint (λ b bs. apart_all b.sides bs) disjoint_tests _ _ i bs c.loop-i-test.true c.loop-i.invariant
-    (c.apart-from-all.ensures ∙ ap (apart_all (get_or bs i no_box).sides) (take_all _ (drop (i + 1) bs) (simp length-drop (omega arith))))
+    (c.apart_from-all.ensures ∙ ap (apart_all (get_or bs i no_box).sides) (take_all _ (drop (i + 1) bs) (simp length-drop (omega arith))))
 
 pub returns : goal.returns
 returns c = test_all disjoint (λ b bs. apart_all b.sides bs) disjoint_tests _ c.loop-i.i c.args.boxes.now (omega arith) c.loop-i.invariant

@@ -9,8 +9,8 @@ loop-b-init c = sum_none _ _
 
 pub loop-b-preserved : goal.loop-b-preserved
 loop-b-preserved c =
-    let e = c.mass-of.ensures in
-    sum_more _ c.args.boxes.now c.loop-b.b-index c.loop-b.sum c.mass-of.result _ c.loop-b-test.true (omega arith) c.saturating-add-sum.ensures c.loop-b.invariant
+    let e = c.mass_of.ensures in
+    sum_more _ c.args.boxes.now c.loop-b.b-index c.loop-b.sum c.mass_of.result _ c.loop-b-test.true (omega arith) c.saturating_add-sum.ensures c.loop-b.invariant
 
 pub returns : goal.returns
 unfolding total_in

@@ -7,10 +7,10 @@ pub loop-b-init : goal.loop-b-init
 loop-b-init c = refl
 
 pub loop-b-preserved : goal.loop-b-preserved
-loop-b-preserved c = weight_past c.args.boxes.now c.loop-b.b-index c.args.sheet _ c.loop-b-test.true (sym c.is-inside.ensures ∙ c.if-is-inside.false) c.loop-b.invariant
+loop-b-preserved c = weight_past c.args.boxes.now c.loop-b.b-index c.args.sheet _ c.loop-b-test.true (sym c.is_inside.ensures ∙ c.if-is_inside.false) c.loop-b.invariant
 
-pub returns-then-is-inside : goal.returns-then-is-inside
-returns-then-is-inside c = λ d. weight_found c.args.boxes.now c.loop-b.b-index c.args.sheet c.loop-b-test.true (sym c.is-inside.ensures ∙ c.if-is-inside.true) c.loop-b.invariant d
+pub returns-then-is_inside : goal.returns-then-is_inside
+returns-then-is_inside c = λ d. weight_found c.args.boxes.now c.loop-b.b-index c.args.sheet c.loop-b-test.true (sym c.is_inside.ensures ∙ c.if-is_inside.true) c.loop-b.invariant d
 
 pub returns : goal.returns
 returns c = λ d. weight_none c.args.boxes.now c.loop-b.b-index c.args.sheet c.loop-b-test.false c.loop-b.invariant

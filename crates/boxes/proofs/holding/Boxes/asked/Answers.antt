@@ -5,7 +5,7 @@ use Rattle.boxes.proofs.holding.Boxes.asked.Goals as goal
 pub returns-in-Some : goal.returns-in-Some
 returns-in-Some c =
     let b = c.args.self.now in
-    let q = c.in-ok-question in
+    let q = c.in_ok-question in
     let h = q.ensures.gives in
     let w = c.in-Some.ensures in
     record {
@@ -16,7 +16,7 @@ returns-in-Some c =
 pub returns-in-None : goal.returns-in-None
 returns-in-None c =
     let b = c.args.self.now in
-    let q = c.in-ok-question in
+    let q = c.in_ok-question in
     let h = q.ensures.gives in
     let n = c.in-None.ensures.carries in
     record {

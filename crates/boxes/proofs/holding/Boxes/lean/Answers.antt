@@ -6,32 +6,32 @@ use Rattle.boxes.specs.Returns.{parts}
 use Rattle.boxes.proofs.Leans.{lean_value, lean_factor, lean_excess, lean_ok, lean_held, leans}
 use Rattle.boxes.proofs.holding.Boxes.lean.Goals as goal
 
-pub returns-then-not-good-edges : goal.returns-then-not-good-edges
-returns-then-not-good-edges c = record {
-  replies = λ e. lean_value c.args.self.now c.args.lowest c.args.highest c.args.factor (sym c.if-not-good-edges.ensures);
+pub returns-then-not-good_edges : goal.returns-then-not-good_edges
+returns-then-not-good_edges c = record {
+  replies = λ e. lean_value c.args.self.now c.args.lowest c.args.highest c.args.factor (sym c.if-not-good_edges.ensures);
   leaves = λ e. refl;
   leans = λ e. tt;
   keeps = λ e. refl;
 }
 
-pub returns-then-not-good-factor : goal.returns-then-not-good-factor
-returns-then-not-good-factor c =
-    let g = sym c.if-not-good-edges.ensures in
+pub returns-then-not-good_factor : goal.returns-then-not-good_factor
+returns-then-not-good_factor c =
+    let g = sym c.if-not-good_edges.ensures in
     record {
-      replies = λ e. lean_factor c.args.self.now c.args.lowest c.args.highest c.args.factor g (sym c.if-not-good-factor.ensures);
+      replies = λ e. lean_factor c.args.self.now c.args.lowest c.args.highest c.args.factor g (sym c.if-not-good_factor.ensures);
       leaves = λ e. refl;
       leans = λ e. tt;
       keeps = λ e. refl;
     }
 
-pub returns-then-not-has-room : goal.returns-then-not-has-room
-returns-then-not-has-room c =
+pub returns-then-not-has_room : goal.returns-then-not-has_room
+returns-then-not-has_room c =
     let b = c.args.self.now in
-    let g = sym c.if-not-good-edges.ensures in
-    let k = sym c.if-not-good-factor.ensures in
+    let g = sym c.if-not-good_edges.ensures in
+    let k = sym c.if-not-good_factor.ensures in
     record {
       replies = λ e.
-          lean_excess b c.args.lowest c.args.highest c.args.factor g k (parts b e) _ _ c.sides-between.ensures c.pressed-list.ensures c.if-not-has-room.ensures.is;
+          lean_excess b c.args.lowest c.args.highest c.args.factor g k (parts b e) _ _ c.sides_between.ensures c.pressed-list.ensures c.if-not-has_room.ensures.is;
       leaves = λ e. refl;
       leans = λ e. tt;
       keeps = λ e. refl;
@@ -41,14 +41,14 @@ pub returns : goal.returns
 unfolding held
 returns c =
     let b = c.args.self.now in
-    let g = sym c.if-not-good-edges.ensures in
-    let k = sym c.if-not-good-factor.ensures in
-    let r = c.if-not-has-room.ensures.is in
+    let g = sym c.if-not-good_edges.ensures in
+    let k = sym c.if-not-good_factor.ensures in
+    let r = c.if-not-has_room.ensures.is in
     record {
-      replies = λ e. lean_ok b c.args.lowest c.args.highest c.args.factor g k (parts b e) _ _ c.sides-between.ensures c.pressed-list.ensures r;
+      replies = λ e. lean_ok b c.args.lowest c.args.highest c.args.factor g k (parts b e) _ _ c.sides_between.ensures c.pressed-list.ensures r;
       leaves = λ e.
           ap (boxed b.first b.count b.tops)
-          (lean_held b c.args.lowest c.args.highest c.args.factor g k (parts b e) _ _ c.sides-between.ensures c.pressed-list.ensures r);
-      leans = λ e. leans b c.args.lowest c.args.highest c.args.factor g k (parts b e) _ _ c.sides-between.ensures c.pressed-list.ensures r;
+          (lean_held b c.args.lowest c.args.highest c.args.factor g k (parts b e) _ _ c.sides_between.ensures c.pressed-list.ensures r);
+      leans = λ e. leans b c.args.lowest c.args.highest c.args.factor g k (parts b e) _ _ c.sides_between.ensures c.pressed-list.ensures r;
       keeps = λ e. never e;
     }

@@ -5,4 +5,4 @@ use Rattle.boxes.proofs.holding.Boxes.pressed.Goals as goal
 
 pub returns : goal.returns
 returns c =
-    press_holds c.args.around c.args.factor c.none.result _ _ _ _ _ c.edges-of.ensures c.held.ensures c.none.ensures (search rules) c.hand-all.ensures
+    press_holds c.args.around c.args.factor c.none.result _ _ _ _ _ c.edges_of.ensures c.held.ensures c.none.ensures (search rules) c.hand_all.ensures

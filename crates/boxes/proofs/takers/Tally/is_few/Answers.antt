@@ -9,7 +9,7 @@ pub loop-a-init : goal.loop-a-init
 loop-a-init c = below_none _
 
 pub loop-a-preserved : goal.loop-a-preserved
-loop-a-preserved c = below_next _ _ _ _ c.loop-a.invariant c.may-keep-all.ensures
+loop-a-preserved c = below_next _ _ _ _ c.loop-a.invariant c.may_keep-all.ensures
 
 pub returns : goal.returns
 returns c = c.loop-a.invariant ∙ ap (λ n. all_below n (λ a. leb (get_or c.args.self.now.pieces a 0) most_boxes)) (omega arith)

@@ -5,11 +5,11 @@ use Rattle.boxes.specs.Holding.{held}
 use Rattle.boxes.specs.Returns.{parts, kept_few, revise_not, revise_none, revise_ok, revise_leaves}
 use Rattle.boxes.proofs.holding.kind.BoxesBelief.revise.Goals as goal
 
-pub returns-in-default : goal.returns-in-default
-returns-in-default c =
-    let q = c.in-ok-question in
+pub returns-in_default : goal.returns-in_default
+returns-in_default c =
+    let q = c.in_ok-question in
     record {
-      replies = λ e. revise_not c.args.self.now c.args.question.now q.question q.ensures.gives c.args.answer c.in-default.ensures.carries;
+      replies = λ e. revise_not c.args.self.now c.args.question.now q.question q.ensures.gives c.args.answer c.in_default.ensures.carries;
       leaves = λ e. refl;
       keeps = λ e. refl;
     }
@@ -17,7 +17,7 @@ returns-in-default c =
 pub returns-then-tally-eq0 : goal.returns-then-tally-eq0
 returns-then-tally-eq0 c =
     let b = c.args.self.now in
-    let q = c.in-ok-question in
+    let q = c.in_ok-question in
     let w = c.in-Some.ensures in
     record {
       replies = λ e.
@@ -26,20 +26,21 @@ returns-then-tally-eq0 c =
       keeps = λ e. refl;
     }
 
-pub invariant-of-self : goal.invariant-of-self
-invariant-of-self c =
+pub invariant_of-self : goal.invariant_of-self
+invariant_of-self c =
     let b = c.args.self.now in
-    let q = c.in-ok-question in
-    let w = c.in-Some.ensures in (
-      b.four,
-      (kept_few b c.args.question.now q.question q.ensures.gives c.args.answer c.in-Some.tally w.carries w.weighs c.sifted-self.result c.sifted-self.ensures, tt),
-    )
+    let q = c.in_ok-question in
+    let w = c.in-Some.ensures in
+    record {
+      four = b.four;
+      few = kept_few b c.args.question.now q.question q.ensures.gives c.args.answer c.in-Some.tally w.carries w.weighs c.sifted-self.result c.sifted-self.ensures;
+    }
 
 pub returns : goal.returns
 unfolding held
 returns c =
     let b = c.args.self.now in
-    let q = c.in-ok-question in
+    let q = c.in_ok-question in
     let w = c.in-Some.ensures in
     record {
       replies = λ e.
