@@ -1,5 +1,5 @@
 -- Digits, byte by byte.
-use Rattle.std.proofs.Common.{◌≡◌, ℕ, suc, ◌+◌, ◌-◌, ◌*◌, ◌<◌, ◌≤◌, Bool, true, false, cond, not, ◌&&◌, eqb, leb, List, [], ◌∷◌, length, get_or, drop, Some, None, Option, sym, refl, ap, ◌∙◌, add-one, arith, drop-cons}
+use Rattle.std.proofs.Common.{◌≡◌, ℕ, suc, ◌+◌, ◌-◌, ◌*◌, ◌<◌, Bool, true, false, cond, ◌&&◌, leb, List, length, get_or, drop, Some, None, Option, sym, ap, ◌∙◌, add-one, drop-cons}
 use Rattle.script.specs.Text.{is_digit, decimal_from}
 
 pub digits_more : (most n : ℕ) (w : List ℕ) (i : ℕ) (o : Option ℕ) → i < length w →
