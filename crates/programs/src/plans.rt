@@ -71,7 +71,7 @@ fn part_ends(words: &Words<'_>) -> bool {
     let mut ahead = *words;
     match ahead.next() {
         None => true,
-        Some(word) => word == b";",
+        Some(word) => word == b";".as_slice(),
     }
 }
 
