@@ -24,7 +24,7 @@ onto_some : (xs : List ℕ) (h l : ℕ) (p : Option (List ℕ)) → onto xs (joi
 onto_some xs h l (Some ys) = ap Some (sym (append_assoc xs ((h * 16 + l) ∷ []) ys))
 onto_some xs h l None = refl
 
-module _ (w : List ℕ) (i : ℕ) (h : i < length w / 2) (even : length w % 2 ≡ 0) where
+module _ (w : List ℕ) (i : ℕ) (h : i < length w / 2) where
   pub front : pairs (drop (2 * i) w) ≡ joined (nibble (get_or w (2 * i) 0)) (nibble (get_or w (2 * i + 1) 0)) (pairs (drop (2 * (i + 1)) w))
   unfolding pairs
   front =
@@ -59,13 +59,6 @@ odd_by (x ∷ y ∷ xs) e = let k : length xs % 2 ≡ 1 = omega arith in none (n
 
 pub odd : (w : List ℕ) → (length w % 2 ≡ 0 → ⊥) → pairs w ≡ None
 odd w h = odd_by w (omega (arith, h))
-
-pub start : (w : List ℕ) → onto [] (pairs w) ≡ pairs w
-start w = by (pairs w)
-  where
-    by : (o : Option (List ℕ)) → onto [] o ≡ o
-    by (Some xs) = refl
-    by None = refl
 
 pub end : (xs w : List ℕ) (k : ℕ) → length w ≤ k → onto xs (pairs (drop k w)) ≡ Some xs
 unfolding pairs

@@ -7,6 +7,7 @@ use std::alloc::{AllocError, Global};
 pub const MOST_BYTES: usize = 200;
 
 // The bytes that a word writes in hexadecimal, two digits of either case for each; a hyphen stands for none.
+#[tactic(auto, using(crate::proofs::Pairs::reads_back))]
 pub fn hex(heap: Global, word: &[u8]) -> Result<Option<Vec<u8>>, AllocError>
     ensures bytes { IfOk result (λ o. MatchOption o (bytes_of word.now ≡ None) (λ v. bytes_of word.now ≡ Some v.items)) }
     ensures back { HexReadsBack }
@@ -36,6 +37,7 @@ fn is_sized(word: &[u8]) -> bool
 }
 
 // The bytes that pairs of hexadecimal digits write, of any number.
+#[tactic(auto, using(crate::proofs::Pairs::odd, crate::proofs::Pairs::no_high, crate::proofs::Pairs::no_low, crate::proofs::Pairs::one_more, crate::proofs::Pairs::end))]
 pub fn hex_digits(heap: Global, word: &[u8]) -> Result<Option<Vec<u8>>, AllocError>
     ensures { IfOk result (λ o. MatchOption o (pairs word.now ≡ None) (λ v. pairs word.now ≡ Some v.items)) }
 {

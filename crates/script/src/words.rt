@@ -97,6 +97,7 @@ pub fn decimal(word: &[u8], most: u32) -> Option<u32>
     digits(word, most)
 }
 
+#[tactic(auto, using(crate::proofs::Text::digits_more), unfolding(crate::specs::Text::decimal_from))]
 fn digits(word: &[u8], most: u32) -> Option<u32>
     ensures { result ≡ decimal_from most 0 word.now }
 {
