@@ -1,8 +1,9 @@
 -- The laws of the definitions.
-use Rattle.std.proofs.Common.{◌≡◌, ℕ, ◌≤◌, true, false, List, [], ◌∷◌, get_or, refl, inl, inr, arith, eq-eqb, le-leb}
-use Rattle.std.specs.List.{AllByRecursion as All}
+use Rattle.std.proofs.Common.{◌≡◌, ℕ, ◌<◌, ◌≤◌, true, false, List, [], ◌∷◌, length, get_or, refl, inl, inr, arith, eq-eqb, le-leb}
+use Rattle.std.specs.List.{AllByRecursion}
+use Rattle.std.proofs.lemmas.List.Elements.{All-from_recursion, recursion_from_All}
 use Rattle.std.proofs.lemmas.Bool.{and_from, or_left, or_right, cases_Bool}
-use Rattle.question.specs.Questions.{in_span}
+use Rattle.question.specs.Questions.{steps_of, in_span}
 use Rattle.question.proofs.Questions.{all_below_true}
 use Rattle.belief.specs.Meaning.{total_of, peak_of}
 use Rattle.ranges.specs.declared.shapes.WeightedBox.{WeightedBox}
@@ -30,10 +31,15 @@ combined ts xs = pieces_combined ts xs
 pub sorts : Sorts
 sorts tops ts xs h f =
     let l = fits_length xs tops h in
-    record { once = pieces_once tops ts xs h (rw l f); agree = pieces_agree ts xs (rw l f); joint = pieces_joint ts xs }
+    let g = recursion_from_All (λ t. t.field < length tops) ts f in
+    record {
+      once = pieces_once tops ts xs h (rw l g);
+      agree = All-from_recursion _ (pieces ts xs) (pieces_agree ts xs (rw l g));
+      joint = λ s u i j a. All-from_recursion _ (pieces ts xs) (pieces_joint ts xs s u i j a);
+    }
 
 pub answer : OneAnswer
-answer = one_answer
+answer tops q bs l d h = All-from_recursion _ (cut_all (steps_of q) bs) (one_answer tops q bs l d h)
 
 -- ---- soundness
 
@@ -41,11 +47,14 @@ zero_made : (f c : ℕ) (tops : List ℕ) → ((k : ℕ) → in_span f c k ≡ f
 unfolding zero_outside
 zero_made f c tops h = all_below_true 4 _ (λ k l. elim (cases_Bool (in_span f c k)) [ inl e ↦ or_left (in_span f c k) _ e | inr e ↦ or_right (in_span f c k) _ (eq-eqb _ _ (h k e)) ])
 
-fit_each : (ts : List ℕ) (bs : List WeightedBox) → fit_all ts bs ≡ true → All (λ b. (fits ts b.sides ≡ true) × (1 ≤ b.weight)) bs
+abbrev Fits : List ℕ → WeightedBox → Type 0
+Fits ts b = (fits ts b.sides ≡ true) × (1 ≤ b.weight)
+
+fit_each : (ts : List ℕ) (bs : List WeightedBox) → fit_all ts bs ≡ true → AllByRecursion (Fits ts) bs
 fit_each ts [] h = tt
 fit_each ts (b ∷ bs) h = let p = fit ts b bs h in ((p.here, p.some), fit_each ts bs p.rest)
 
-each_fit : (ts : List ℕ) (bs : List WeightedBox) → All (λ b. (fits ts b.sides ≡ true) × (1 ≤ b.weight)) bs → fit_all ts bs ≡ true
+each_fit : (ts : List ℕ) (bs : List WeightedBox) → AllByRecursion (Fits ts) bs → fit_all ts bs ≡ true
 unfolding fit_all
 each_fit ts [] h = refl
 each_fit ts (b ∷ bs) h = and_from _ _ (and_from _ _ h.0.0 (le-leb _ _ h.0.1)) (each_fit ts bs h.1)
@@ -64,7 +73,7 @@ soundness f c tops bs l = (to, from)
           last = p.last;
           outside = zero_at f c tops l p.out;
           few = p.few;
-          fit = fit_each tops bs p.fit;
+          fit = All-from_recursion (Fits tops) bs (fit_each tops bs p.fit);
           apart = disjoint_cover bs p.apart;
           least = omega arith;
           most = omega arith;
@@ -73,7 +82,7 @@ soundness f c tops bs l = (to, from)
     from : Sound f c tops bs → sound_in f c tops bs ≡ true
     from p =
         let z = zero_made f c tops p.outside in
-        let fit = each_fit tops bs p.fit in
+        let fit = each_fit tops bs (recursion_from_All (Fits tops) bs p.fit) in
         let t = summed f c tops bs l z fit in
         let lo = p.least in
         let hi = p.most in

@@ -1,5 +1,5 @@
 -- What a belief kept as boxes means, and what making and leaning give. Assumes nothing.
-use Rattle.std.specs.Prelude.{◌≡◌, ℕ, suc, ◌*◌, ◌^◌, Bool, true, false, cond, not, ◌&&◌, leb, List, [], ◌∷◌, length, take, replicate, Ok, Err, Result, nat_eq, nat_le}
+use Rattle.std.specs.Prelude.{◌≡◌, ℕ, suc, ◌*◌, ◌^◌, Bool, true, false, cond, not, ◌&&◌, List, [], ◌∷◌, length, take, replicate, Ok, Err, Result, nat_eq, nat_le}
 use Rattle.refusal.specs.declared.list.Refusal.{Refusal}
 use Rattle.refusal.specs.Replies.{Reply, given, refuse_if}
 use Rattle.question.specs.Expressions.{greatest}
@@ -35,7 +35,7 @@ sound_in first count tops bs = (good_span first count && zero_outside first coun
 -- a question is carried if it is stepped, reads only fields of the span,
 -- and for each answer at most 64 pieces of all boxes together give it
 unfoldable pub carried : ℕ → ℕ → List WeightedBox → List ℕ → Bool
-carried first count bs q = is_stepped q && (reads_in first count q && all_below (suc greatest) (λ a. leb (length (revised_boxes q a bs)) most_boxes))
+carried first count bs q = is_stepped q && (reads_in first count q && all_below (suc greatest) (λ a. nat_le (length (revised_boxes q a bs)) most_boxes))
 
 -- the boxes after a list of revisings, the oldest first
 unfoldable pub after : List Asked → List WeightedBox → List WeightedBox

@@ -1,6 +1,5 @@
 -- What the definitions of boxes promise, in words of sheets, steps and answers. Assumes nothing.
-use Rattle.std.specs.Prelude.{◌≡◌, ℕ, ◌+◌, ◌^◌, ◌<◌, ◌≤◌, true, false, cond, List, [], ◌∷◌, length, Decides, slice_index}
-use Rattle.std.specs.List.{AllByRecursion as All}
+use Rattle.std.specs.Prelude.{◌≡◌, ℕ, ◌+◌, ◌^◌, ◌<◌, ◌≤◌, true, false, cond, List, [], ◌∷◌, length, All, Decides, slice_index}
 use Rattle.question.specs.declared.steps.Step.{Step}
 use Rattle.question.specs.Steps.{Agree}
 use Rattle.question.specs.Questions.{answers, is_stepped, steps_of, in_span}
