@@ -2,6 +2,7 @@
 use Rattle.std.proofs.Common.{◌≡◌, ℕ, ◌*◌, ◌≤◌, Bool, true, false, ◌&&◌, eqb, leb, List, [], ◌∷◌, Ok, Err, Result, sym, refl, ap, ◌∙◌, mul-le-mul_right, mul_comm, mul-le-mul, zero-mul, arith, ne_eqb, eqb-true, le-leb, leb-true}
 use borrow.Author.Tests.{eqb-false}
 use Rattle.refusal.specs.declared.list.Refusal.{Refusal}
+use Rattle.refusal.specs.Replies.{Reply}
 use Rattle.belief.specs.Meaning.{Meaning, Asked, total_of, mass_of, revised}
 use Rattle.belief.specs.Calls.{revising, leaving}
 use Rattle.belief.proofs.Sums.{mass_total}
@@ -73,11 +74,11 @@ times_zero x y h false is =
     ne_eqb (x * y) 0 (omega arith) ∙ sym is
 
 module _ (l r : Meaning) (p : Parts l r) (q : List ℕ) (a : ℕ) where
-  pub revising_left : within l q ≡ true → revising l q a ≡ revising (paired l r) q a
-  revising_left e =
-      revising_map l (paired l r) q a (by_left l r q e) (ap (λ z. eqb z 0) (mass_left l r p q a e) ∙ times_zero (mass_of l q a) (total_of r) p.lawful_right.least _ refl)
+  pub revising_left : (x : Reply (Unit {0})) → within l q ≡ true → x ≡ revising l q a → x ≡ revising (paired l r) q a
+  revising_left x e k =
+      k ∙ revising_map l (paired l r) q a (by_left l r q e) (ap (λ z. eqb z 0) (mass_left l r p q a e) ∙ times_zero (mass_of l q a) (total_of r) p.lawful_right.least _ refl)
 
-  pub revising_right : within l q ≡ false → within r q ≡ true → revising r q a ≡ revising (paired l r) q a
-  revising_right e h =
-      revising_map r (paired l r) q a (by_right l r q e h)
+  pub revising_right : (x : Reply (Unit {0})) → within l q ≡ false → within r q ≡ true → x ≡ revising r q a → x ≡ revising (paired l r) q a
+  revising_right x e h k =
+      k ∙ revising_map r (paired l r) q a (by_right l r q e h)
       (ap (λ z. eqb z 0) (mass_right l r p q a h ∙ mul_comm (total_of l) (mass_of r q a)) ∙ times_zero (mass_of r q a) (total_of l) p.lawful_left.least _ refl)

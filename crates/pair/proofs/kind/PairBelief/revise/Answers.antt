@@ -1,5 +1,5 @@
 -- Revising one side revises the pair.
-use Rattle.std.proofs.Common.{ap, ◌∙◌}
+use Rattle.std.proofs.Common.{ap}
 use Rattle.question.proofs.Questions.{read_text}
 use Rattle.pair.specs.Folds.{parts}
 use Rattle.pair.proofs.Calls.{found}
@@ -17,7 +17,7 @@ returns-then-reads_only g c =
     record {
       replies = λ e.
           let p = parts l r (g.met.L.Belief.laws _) (g.met.R.Belief.laws _) e in
-          c.revise.ensures.replies p.left ∙ revising_left l r p q a (found l q _ _ _ t (c.reads_only.ensures p.left) c.if-reads_only.true);
+          revising_left l r p q a _ (found l q _ _ _ t (c.reads_only.ensures p.left) c.if-reads_only.true) (c.revise.ensures.replies p.left);
       leaves = λ e.
           let p = parts l r (g.met.L.Belief.laws _) (g.met.R.Belief.laws _) e in
           leaves_left l r _ q a e (found l q _ _ _ t (c.reads_only.ensures p.left) c.if-reads_only.true) c.revise.result (c.revise.ensures.leaves p.left);
@@ -36,8 +36,8 @@ returns-then-reads_only-2 g c =
     record {
       replies = λ e.
           let p = parts l r (g.met.L.Belief.laws _) (g.met.R.Belief.laws _) e in
-          d.ensures.replies p.right
-          ∙ revising_right l r p q a (found l q _ _ _ t (c.reads_only.ensures p.left) c.if-reads_only.false) (found r q _ _ _ t (c.reads_only-2.ensures p.right) c.if-reads_only-2.true);
+          revising_right l r p q a _ (found l q _ _ _ t (c.reads_only.ensures p.left) c.if-reads_only.false) (found r q _ _ _ t (c.reads_only-2.ensures p.right) c.if-reads_only-2.true)
+          (d.ensures.replies p.right);
       leaves = λ e.
           let p = parts l r (g.met.L.Belief.laws _) (g.met.R.Belief.laws _) e in
           leaves_right l r _ q a e (found l q _ _ _ t (c.reads_only.ensures p.left) c.if-reads_only.false) (found r q _ _ _ t (c.reads_only-2.ensures p.right) c.if-reads_only-2.true)
