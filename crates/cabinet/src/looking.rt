@@ -20,9 +20,9 @@ impl Cabinet {
         code: u16,
     ) -> Result<View, Refusal>
         ensures result { reply result ≡ looking self.now (map (meant B.means) register.now.entries.now) code }
-        ensures memory { register.now.entries.now ≡ register.now.entries.now }
+        ensures memory { register.exit.now.entries.now ≡ register.entry.now.entries.now }
         ensures runs { (audit : List ℕ) → GoesOn (understood B.means (state self.now register.now.entries.now audit))
-            (looks code (mapped viewed (reply result))) (understood B.means (state self.now register.now.entries.now audit)) }
+            (looks code (mapped viewed (reply result))) (understood B.means (state self.now register.exit.now.entries.now audit)) }
     {
         self.show(register, code)
     }
