@@ -1,5 +1,5 @@
 -- A fold over all sheets of a product is the product of the folds.
-use Rattle.std.proofs.Common.{◌≡◌, ℕ, zero, suc, ◌+◌, ◌*◌, ◌<◌, ◌≤◌, max, Bool, true, false, cond, not, ◌&&◌, leb, List, [], ◌∷◌, length, get_or, sym, refl, ap, ◌∙◌, mul-le-mul_right, mul_comm, add-mul, arith, leb-false, leb-true}
+use Rattle.std.proofs.Common.{◌≡◌, ℕ, zero, suc, ◌+◌, ◌*◌, ◌≤◌, max, Bool, true, false, nat_le, List, [], ◌∷◌, length, get_or, sym, refl, ap, ◌∙◌, mul-le-mul_right, mul_comm, add-mul, arith, leb-false, leb-true}
 use Rattle.question.proofs.Questions.{impossible}
 use Rattle.belief.specs.Sheets.{up_to, over_sheets, plus, both}
 use Rattle.belief.specs.Joined.{joined}
@@ -81,7 +81,7 @@ times a b = a * b
 pub plus_scales : Scales plus times
 plus_scales = record { right = λ a b c. sym (add-mul a b c); left = λ a b c. ap (λ z. z + c * b) (mul_comm c a) ∙ ap (λ z. a * c + z) (mul_comm c b) ∙ sym (add-mul a b c) ∙ mul_comm (a + b) c }
 
-max_times : (a b c : ℕ) (t : Bool) → leb a b ≡ t → max (a * c) (b * c) ≡ max a b * c
+max_times : (a b c : ℕ) (t : Bool) → nat_le a b ≡ t → max (a * c) (b * c) ≡ max a b * c
 max_times a b c true e =
     let h = leb-true a b e in let k : a * c ≤ b * c = mul-le-mul_right c h in
     let x : max a b ≡ b = omega arith in rw x (omega arith)
@@ -91,8 +91,8 @@ max_times a b c false e =
 
 pub max_scales : Scales max times
 max_scales = record {
-  right = λ a b c. max_times a b c (leb a b) refl;
-  left = λ a b c. ap (λ z. max z (c * b)) (mul_comm c a) ∙ ap (λ z. max (a * c) z) (mul_comm c b) ∙ max_times a b c (leb a b) refl ∙ mul_comm (max a b) c;
+  right = λ a b c. max_times a b c (nat_le a b) refl;
+  left = λ a b c. ap (λ z. max z (c * b)) (mul_comm c a) ∙ ap (λ z. max (a * c) z) (mul_comm c b) ∙ max_times a b c (nat_le a b) refl ∙ mul_comm (max a b) c;
 }
 
 both_right : (a b c : Bool) → both (both a c) (both b c) ≡ both (both a b) c

@@ -1,5 +1,5 @@
 -- Which reply a belief owes, from what its parts replied.
-use Rattle.std.proofs.Common.{◌≡◌, ℕ, zero, suc, ◌+◌, ◌*◌, ◌<◌, ◌≤◌, Bool, true, false, cond, not, eqb, List, [], ◌∷◌, Some, None, Option, sym, refl, ap, ◌∙◌, arith, eq-eqb, ne_eqb}
+use Rattle.std.proofs.Common.{◌≡◌, ℕ, ◌≤◌, Bool, true, false, not, eqb, List, [], None, Option, sym, refl, ap, ◌∙◌, arith, eq-eqb, ne_eqb}
 use Rattle.refusal.specs.Replies.{Reply, given, declined, mapped, and_then, refuse_if}
 use Rattle.question.specs.Expressions.{Expression}
 use Rattle.question.specs.Reading.{reading}

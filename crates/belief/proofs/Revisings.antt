@@ -1,5 +1,5 @@
 -- One revising after a list of revisings.
-use Rattle.std.proofs.Common.{◌≡◌, ℕ, zero, suc, ◌+◌, ◌*◌, ◌<◌, ◌≤◌, Bool, true, false, cond, ◌&&◌, eqb, List, [], ◌∷◌, ◌++◌, sym, refl, ap, ◌∙◌}
+use Rattle.std.proofs.Common.{◌≡◌, ℕ, Bool, true, false, cond, ◌&&◌, eqb, List, [], ◌∷◌, ◌++◌, sym, refl, ap}
 use Rattle.question.specs.Questions.{answers}
 use Rattle.belief.specs.Meaning.{Meaning, Asked, kept, revised, gives, conditioned}
 

@@ -1,8 +1,8 @@
 -- Order and equality of folds over sheets.
-use Rattle.std.proofs.Common.{◌≡◌, ℕ, zero, suc, ◌+◌, ◌*◌, ◌^◌, ◌<◌, ◌≤◌, max, Bool, true, false, cond, eqb, List, [], ◌∷◌, sym, refl, ap, ◌∙◌, arith}
+use Rattle.std.proofs.Common.{◌≡◌, ℕ, zero, suc, ◌≤◌, max, Bool, true, false, cond, eqb, List, [], ◌∷◌, arith}
 use Rattle.belief.specs.Sheets.{up_to, over_sheets, sum_of, max_of, plus}
 use Rattle.question.specs.Questions.{answers}
-use Rattle.belief.specs.Meaning.{Meaning, Laws, kept, total_of, mass_of, heaviest_of, peak_of}
+use Rattle.belief.specs.Meaning.{Meaning, kept, total_of, mass_of, heaviest_of, peak_of}
 
 pub record Mono (op : ℕ → ℕ → ℕ) : Type 0 where
   pub mono : (a b c d : ℕ) → a ≤ c → b ≤ d → op a b ≤ op c d

@@ -1,7 +1,7 @@
 -- What the functions of a sound belief reply, and what a revising leaves. Assumes nothing.
 use Rattle.std.specs.Prelude.{ℕ, Bool, not, List, [], Ok, Err, Result, ◌==◌}
 use Rattle.refusal.specs.declared.list.Refusal.{Refusal}
-use Rattle.refusal.specs.Replies.{Reply, given, declined, mapped, and_then, refuse_if}
+use Rattle.refusal.specs.Replies.{Reply, given, mapped, and_then, refuse_if}
 use Rattle.question.specs.Reading.{reading}
 use Rattle.belief.specs.Meaning.{Meaning, mass_of, revised}
 

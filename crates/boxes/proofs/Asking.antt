@@ -1,5 +1,5 @@
 -- What boxes make of a question: whether it is carried, and what the pieces weigh that give an answer.
-use Rattle.std.proofs.Common.{◌≡◌, ℕ, zero, suc, ◌<◌, min, Bool, true, false, leb, List, length, get_or, Some, None, fold, filter, sym, refl, ap, ◌∙◌, arith}
+use Rattle.std.proofs.Common.{◌≡◌, ℕ, zero, suc, ◌<◌, min, Bool, true, false, nat_le, List, length, get_or, Some, None, fold, filter, sym, refl, ap, ◌∙◌, arith}
 use Rattle.std.proofs.lemmas.Bool.Decides.{nat_tests}
 use Rattle.question.specs.declared.checked.Question.{Question}
 use Rattle.question.specs.declared.steps.Step.{Step}
@@ -22,7 +22,7 @@ unfolding all_below
 below_cong zero p r h = refl
 below_cong (suc n) p r h = let a = below_cong n p r (λ k l. h k (omega arith)) in let b = h n (omega arith) in cc
 
-few_test : (n m : ℕ) → m ≡ min n 255 → leb m most_boxes ≡ leb n most_boxes
+few_test : (n m : ℕ) → m ≡ min n 255 → nat_le m most_boxes ≡ nat_le n most_boxes
 few_test n m e = grind (arith, nat_tests)
 
 module _ (f c : ℕ) (q : Question) (bs : List WeightedBox) where
@@ -42,11 +42,11 @@ module _ (f c : ℕ) (q : Question) (bs : List WeightedBox) where
           = et ∙ ap (λ z. fold tallied z (cut_all xs ys)) en ∙ ap (λ z. fold tallied (untallied q a) (cut_all z ys)) (ex ∙ some_steps (text q) h) ∙ ap (λ z. fold tallied (untallied q a) (cut_all (steps_of (text q)) z)) ey in
           rw e (tally_all q a (cut_all (steps_of (text q)) bs))
 
-      few_is : all_below (suc greatest) (λ a. leb (get_or t.pieces a 0) most_boxes) ≡ all_below (suc greatest) (λ a. leb (length (revised_boxes (text q) a bs)) most_boxes)
+      few_is : all_below (suc greatest) (λ a. nat_le (get_or t.pieces a 0) most_boxes) ≡ all_below (suc greatest) (λ a. nat_le (length (revised_boxes (text q) a bs)) most_boxes)
       unfolding revised_boxes
       few_is = below_cong (suc greatest) _ _ (λ k l. few_test _ _ (told.count k (omega arith)))
 
-      pub is_carried : (b : Bool) → true ≡ reads_in f c (text q) → b ≡ all_below (suc greatest) (λ a. leb (get_or t.pieces a 0) most_boxes) → b ≡ carried f c bs (text q)
+      pub is_carried : (b : Bool) → true ≡ reads_in f c (text q) → b ≡ all_below (suc greatest) (λ a. nat_le (get_or t.pieces a 0) most_boxes) → b ≡ carried f c bs (text q)
       unfolding carried
       is_carried b e k = let s = some_stepped (text q) h in let r = sym e in k ∙ few_is ∙ simp (s, r)
 

@@ -1,6 +1,6 @@
 -- What leaning gives.
-use Rattle.std.proofs.Common.{◌≡◌, ℕ, ◌*◌, ◌^◌, ◌≤◌, Bool, true, false, cond, ◌&&◌, leb, List, [], ◌∷◌, map, length, take, None, fold, sym, refl, ap, ◌∙◌, mul-le-mul, mul-one, arith, le-leb, leb-true}
-use Rattle.std.specs.List.{AllByRecursion as All}
+use Rattle.std.proofs.Common.{◌≡◌, ℕ, ◌*◌, ◌^◌, ◌≤◌, Bool, true, false, cond, ◌&&◌, nat_le, List, [], ◌∷◌, map, length, take, None, fold, sym, refl, ap, ◌∙◌, mul-le-mul, mul-one, arith, le-leb, leb-true}
+use Rattle.std.specs.List.{AllByRecursion}
 use Rattle.std.proofs.lemmas.Bool.Decides.{nat_tests}
 use Rattle.refusal.specs.Replies.{Reply, given, declined}
 use Rattle.question.specs.declared.steps.Step.{Step}
@@ -24,7 +24,7 @@ use Rattle.boxes.specs.Holding.{most_boxes, weight_in, boxed, held, meaning, bet
 use Rattle.boxes.specs.Takers.{capped, listed, capped_piece, pressed, Holds}
 use Rattle.boxes.proofs.Gathers.{puts_hold, press_all}
 use Rattle.boxes.specs.Meanings.{Tested, sound_made}
-use Rattle.boxes.specs.Returns.{parts_of}
+use Rattle.boxes.specs.Returns.{PartsOf}
 
 -- ---- the pieces that were pressed
 
@@ -41,7 +41,7 @@ light_product true w f h k = let m : w * f ≤ (2 ^ 40) * 255 = mul-le-mul {n₂
 light_product false w f h k = refl
 
 -- no product of a light piece passes 64 bits
-light_pieces : (x : List Side) (f : ℕ) → f ≤ 255 → (ps : List WeightedBox) → All (λ p. p.weight ≤ 2 ^ 40) ps → map (capped_piece x f) ps ≡ map (leaned_piece x f) ps
+light_pieces : (x : List Side) (f : ℕ) → f ≤ 255 → (ps : List WeightedBox) → AllByRecursion (λ p. p.weight ≤ 2 ^ 40) ps → map (capped_piece x f) ps ≡ map (leaned_piece x f) ps
 unfolding capped_piece leaned_piece
 light_pieces x f k [] h = refl
 light_pieces x f k (p ∷ ps) h =
@@ -51,14 +51,14 @@ light_pieces x f k (p ∷ ps) h =
 
 -- ---- what leaning replies
 
-pub room_is : (l : BoxList) (n : ℕ) → true ≡ leb l.len most_boxes → n ≡ capped (total_in (take l.len l.boxes)) → leb n (2 ^ 40) ≡ (leb l.len most_boxes && leb (total_in (listed l)) (2 ^ 40))
+pub room_is : (l : BoxList) (n : ℕ) → true ≡ nat_le l.len most_boxes → n ≡ capped (total_in (take l.len l.boxes)) → nat_le n (2 ^ 40) ≡ (nat_le l.len most_boxes && nat_le (total_in (listed l)) (2 ^ 40))
 unfolding listed
 room_is l n h e = let z = sym h in rw z (test (total_in (take l.len l.boxes)) e)
   where
-    test : (m : ℕ) → n ≡ capped m → leb n (2 ^ 40) ≡ leb m (2 ^ 40)
+    test : (m : ℕ) → n ≡ capped m → nat_le n (2 ^ 40) ≡ nat_le m (2 ^ 40)
     test m e = grind (arith, nat_tests)
 
-pub room_past : (l : BoxList) → false ≡ leb l.len most_boxes → false ≡ (leb l.len most_boxes && leb (total_in (listed l)) (2 ^ 40))
+pub room_past : (l : BoxList) → false ≡ nat_le l.len most_boxes → false ≡ (nat_le l.len most_boxes && nat_le (total_in (listed l)) (2 ^ 40))
 room_past l h = let z = sym h in simp z
 
 module _ (b : Boxes) (ls hs : List ℕ) (f : ℕ) where
@@ -75,12 +75,12 @@ module _ (b : Boxes) (ls hs : List ℕ) (f : ℕ) where
     unfolding good_edges
     edges_fit = and_left (fits b.tops (between ls hs)) _ e
 
-    module _ (k : good_factor f ≡ true) (p : parts_of b) (l : BoxList) (xs : List Side) (ex : xs ≡ between ls hs) (h : Holds l (map (capped_piece xs f) (cut_all (edges 0 xs) (held b)))) where
+    module _ (k : good_factor f ≡ true) (p : PartsOf b) (l : BoxList) (xs : List Side) (ex : xs ≡ between ls hs) (h : Holds l (map (capped_piece xs f) (cut_all (edges 0 xs) (held b)))) where
       some_factor : 2 ≤ f
-      some_factor = leb-true 2 f (and_left (leb 2 f) _ k)
+      some_factor = leb-true 2 f (and_left (nat_le 2 f) _ k)
 
       small_factor : f ≤ 255
-      small_factor = leb-true f 255 (and_right (leb 2 f) _ k)
+      small_factor = leb-true f 255 (and_right (nat_le 2 f) _ k)
 
       new : List WeightedBox
       new = leaned_boxes (between ls hs) f (held b)
@@ -94,35 +94,35 @@ module _ (b : Boxes) (ls hs : List ℕ) (f : ℕ) where
       holds : Holds l new
       holds = rw (← pressed_is) h
 
-      room_same : (r : Bool) → r ≡ (leb l.len most_boxes && leb (total_in (listed l)) (2 ^ 40)) → r ≡ room new
+      room_same : (r : Bool) → r ≡ (nat_le l.len most_boxes && nat_le (total_in (listed l)) (2 ^ 40)) → r ≡ room new
       unfolding room
-      room_same r i = i ∙ go (leb (length new) most_boxes) refl
+      room_same r i = i ∙ go (nat_le (length new) most_boxes) refl
         where
-          go : (c : Bool) → leb (length new) most_boxes ≡ c → (leb l.len most_boxes && leb (total_in (listed l)) (2 ^ 40)) ≡ (c && leb (total_in new) (2 ^ 40))
+          go : (c : Bool) → nat_le (length new) most_boxes ≡ c → (nat_le l.len most_boxes && nat_le (total_in (listed l)) (2 ^ 40)) ≡ (c && nat_le (total_in new) (2 ^ 40))
           go true t =
               let n = leb-true _ _ t in
               let m = holds.len in
-              let z = le-leb l.len most_boxes (omega arith) in rw z (ap (λ v. leb (total_in v) (2 ^ 40)) (holds.all n))
+              let z = le-leb l.len most_boxes (omega arith) in rw z (ap (λ v. nat_le (total_in v) (2 ^ 40)) (holds.all n))
           go false t =
               let m = holds.len in
-              let z : leb l.len most_boxes ≡ false = grind (arith, nat_tests) in simp z
+              let z : nat_le l.len most_boxes ≡ false = grind (arith, nat_tests) in simp z
 
-      pub lean_excess : false ≡ (leb l.len most_boxes && leb (total_in (listed l)) (2 ^ 40)) → ◌≡◌ {A = Reply (Unit {0})} (declined 5 None) (leaning b ls hs f)
+      pub lean_excess : false ≡ (nat_le l.len most_boxes && nat_le (total_in (listed l)) (2 ^ 40)) → ◌≡◌ {A = Reply (Unit {0})} (declined 5 None) (leaning b ls hs f)
       unfolding leaning new
       lean_excess i = let r = sym (room_same false i) in simp (e, k, r)
 
-      module _ (i : true ≡ (leb l.len most_boxes && leb (total_in (listed l)) (2 ^ 40))) where
+      module _ (i : true ≡ (nat_le l.len most_boxes && nat_le (total_in (listed l)) (2 ^ 40))) where
         pub lean_ok : ◌≡◌ {A = Reply (Unit {0})} (given tt) (leaning b ls hs f)
         unfolding leaning new
         lean_ok = let r = sym (room_same true i) in simp (e, k, r)
 
         new_few : length new ≤ most_boxes
         unfolding room
-        new_few = leb-true _ _ (and_left (leb (length new) most_boxes) _ (sym (room_same true i)))
+        new_few = leb-true _ _ (and_left (nat_le (length new) most_boxes) _ (sym (room_same true i)))
 
         new_most : total_in new ≤ 2 ^ 40
         unfolding room
-        new_most = leb-true _ _ (and_right (leb (length new) most_boxes) _ (sym (room_same true i)))
+        new_most = leb-true _ _ (and_right (nat_le (length new) most_boxes) _ (sym (room_same true i)))
 
         pub lean_held : take l.len l.boxes ≡ leaned_boxes (between ls hs) f (held b)
         unfolding listed new

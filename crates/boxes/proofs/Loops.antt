@@ -1,5 +1,5 @@
 -- Loops over boxes, by what is left of them.
-use Rattle.std.proofs.Common.{◌≡◌, ℕ, zero, suc, ◌+◌, ◌^◌, ◌<◌, ◌≤◌, max, Bool, true, false, cond, ◌&&◌, leb, List, [], ◌∷◌, length, get_or, drop, sym, refl, ap, ◌∙◌, add-one, arith}
+use Rattle.std.proofs.Common.{◌≡◌, ℕ, zero, suc, ◌+◌, ◌^◌, ◌<◌, ◌≤◌, max, Bool, true, false, cond, ◌&&◌, nat_le, List, [], ◌∷◌, length, get_or, drop, sym, refl, ap, ◌∙◌, add-one, arith}
 use Rattle.std.proofs.lemmas.List.{at_drop_more, at_drop_all}
 use Rattle.question.specs.Questions.{all_below}
 use Rattle.question.proofs.Questions.{and_left, and_right}
@@ -65,7 +65,7 @@ pub apart_tests : (x : List Side) → Tests (apart_all x) (λ b bs. apart x b.si
 unfolding apart_all
 apart_tests x = record { nil = refl; cons = λ b bs. refl }
 
-pub fit_tests : (ts : List ℕ) → Tests (fit_all ts) (λ b bs. fits ts b.sides && leb 1 b.weight)
+pub fit_tests : (ts : List ℕ) → Tests (fit_all ts) (λ b bs. fits ts b.sides && nat_le 1 b.weight)
 unfolding fit_all
 fit_tests ts = record { nil = refl; cons = λ b bs. refl }
 

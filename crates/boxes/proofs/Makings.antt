@@ -1,5 +1,5 @@
 -- What making boxes gives.
-use Rattle.std.proofs.Common.{◌≡◌, ℕ, zero, suc, ◌+◌, ◌-◌, ◌^◌, ◌<◌, ◌≤◌, true, false, cond, eqb, leb, List, [], ◌∷◌, length, get_or, take, replicate, None, sym, refl, ap, ◌∙◌, mul-one, arith, eq-eqb, le-leb, leb-true}
+use Rattle.std.proofs.Common.{◌≡◌, ℕ, zero, suc, ◌+◌, ◌-◌, ◌^◌, ◌<◌, ◌≤◌, true, false, cond, eqb, nat_le, List, [], ◌∷◌, length, get_or, take, replicate, None, sym, refl, ap, ◌∙◌, mul-one, arith, eq-eqb, le-leb, leb-true}
 use Rattle.std.proofs.lemmas.Bool.{and_from}
 use Rattle.refusal.specs.Replies.{Reply, given, declined}
 use Rattle.question.proofs.Questions.{and_left, and_right}
@@ -61,8 +61,8 @@ module _ (f c : ℕ) (tops : List ℕ) (s : good_span f c ≡ true) (z : zero_ou
       let v = volume_pos tops (entire tops) (entire_fits tops) in
       let m = mul-one (volume (entire tops)) in
       record {
-        some = leb-true _ _ (and_left (leb 1 c) _ s);
-        last = leb-true _ _ (and_right (leb 1 c) _ s);
+        some = leb-true _ _ (and_left (nat_le 1 c) _ s);
+        last = leb-true _ _ (and_right (nat_le 1 c) _ s);
         out = z;
         few = omega arith;
         fit = and_from _ _ (and_from _ _ (entire_fits tops) refl) refl;

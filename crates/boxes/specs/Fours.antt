@@ -1,5 +1,5 @@
 -- Four sides, and four bytes, one by one.
-use Rattle.std.specs.Prelude.{◌≡◌, ℕ, zero, suc, ◌+◌, ◌*◌, ◌^◌, ◌<◌, ◌≤◌, Bool, true, false, ◌&&◌, ◌||◌, List, [], ◌∷◌, length, get_or, nat_le, nat_lt, slice_index, slice_index_or, slice_set, refl}
+use Rattle.std.specs.Prelude.{◌≡◌, ℕ, zero, suc, ◌+◌, ◌*◌, ◌^◌, ◌<◌, ◌≤◌, Bool, true, false, ◌&&◌, ◌||◌, List, [], ◌∷◌, length, nat_le, nat_lt, slice_index, slice_index_or, slice_set, refl}
 use Rattle.std.proofs.Common.{sym, ap, ◌∙◌, arith, mul-one, mul-le-mul}
 use Rattle.ranges.specs.declared.shapes.Side.{Side}
 use Rattle.question.specs.declared.steps.Step.{Step}
@@ -29,7 +29,7 @@ by_four f d xs h = ap f (fours d xs h)
 by_fours : {A B C : Type 0} (f : List A → List B → C) (d : A) (e : B) (xs : List A) (ys : List B) → length xs ≡ 4 → length ys ≡ 4 → f (four_of d xs) (four_of e ys) ≡ f xs ys
 by_fours f d e xs ys h k = ap (λ z. f z (four_of e ys)) (fours d xs h) ∙ ap (f xs) (fours e ys k)
 
-pub four_corner : (xs : List Side) → length xs ≡ 4 → ((get_or xs 0 no_side).low ∷ (get_or xs 1 no_side).low ∷ (get_or xs 2 no_side).low ∷ (get_or xs 3 no_side).low ∷ []) ≡ corner xs
+pub four_corner : (xs : List Side) → length xs ≡ 4 → ((slice_index_or xs 0 no_side).low ∷ (slice_index_or xs 1 no_side).low ∷ (slice_index_or xs 2 no_side).low ∷ (slice_index_or xs 3 no_side).low ∷ []) ≡ corner xs
 unfolding corner
 four_corner xs h = by_four corner no_side xs h
 
@@ -64,7 +64,7 @@ four_inside xs s h k a b c d ea eb ec ed =
     ap (λ z. a && (b && (c && z))) (and_true d) ∙ e ∙ by_fours inside no_side 0 xs s h k
 
 abbrev pub side_apart : List Side → List Side → ℕ → Bool
-side_apart xs ys k = nat_lt (get_or xs k no_side).high (get_or ys k no_side).low || nat_lt (get_or ys k no_side).high (get_or xs k no_side).low
+side_apart xs ys k = nat_lt (slice_index_or xs k no_side).high (slice_index_or ys k no_side).low || nat_lt (slice_index_or ys k no_side).high (slice_index_or xs k no_side).low
 
 pub four_apart : (xs ys : List Side) → length xs ≡ 4 → length ys ≡ 4 → (a b c d : Bool) → a ≡ side_apart xs ys 0 → b ≡ side_apart xs ys 1 → c ≡ side_apart xs ys 2 → d ≡ side_apart xs ys 3 →
     (a || (b || (c || d))) ≡ apart xs ys
@@ -74,10 +74,10 @@ four_apart xs ys h k a b c d ea eb ec ed =
     ap (λ z. a || (b || (c || z))) (or_false d) ∙ e ∙ by_fours apart no_side no_side xs ys h k
 
 abbrev pub side_low : List Side → ℕ → Bool
-side_low xs k = nat_le (get_or xs k no_side).low (get_or xs k no_side).high
+side_low xs k = nat_le (slice_index_or xs k no_side).low (slice_index_or xs k no_side).high
 
 abbrev pub side_top : List ℕ → List Side → ℕ → Bool
-side_top ts xs k = nat_le (get_or xs k no_side).high (slice_index ts k)
+side_top ts xs k = nat_le (slice_index_or xs k no_side).high (slice_index ts k)
 
 and_assoc : (a b c : Bool) → ((a && b) && c) ≡ (a && (b && c))
 and_assoc true b c = refl

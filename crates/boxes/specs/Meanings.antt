@@ -1,5 +1,5 @@
 -- What sound boxes mean: their laws, and what revising makes of them.
-use Rattle.std.specs.Prelude.{◌≡◌, ℕ, zero, suc, ◌+◌, ◌^◌, ◌<◌, ◌≤◌, max, Bool, true, false, cond, ◌&&◌, leb, List, [], ◌∷◌, length, filter, ◌==◌, nat_le, slice_index}
+use Rattle.std.specs.Prelude.{◌≡◌, ℕ, zero, suc, ◌+◌, ◌^◌, ◌<◌, ◌≤◌, max, Bool, true, false, cond, ◌&&◌, nat_le, List, [], ◌∷◌, length, filter, ◌==◌, slice_index}
 use Rattle.std.proofs.Math.Path.{refl, sym, ap}
 use Rattle.std.proofs.Common.{◌∙◌}
 use Rattle.std.proofs.Math.Logic.{inl, inr}
@@ -77,9 +77,9 @@ module _ (f c : ℕ) (tops : List ℕ) (bs : List WeightedBox) (four : length to
   unfolding weight_in
   peaked d = over_span max f c tops (weight_at bs) four out ∙ peak_is tops bs fit d
 
-  covered : disjoint bs ≡ true → all_of tops (λ s. leb 1 (weight_in f c bs s)) ≡ (volume_in bs == volume (entire tops))
+  covered : disjoint bs ≡ true → all_of tops (λ s. nat_le 1 (weight_in f c bs s)) ≡ (volume_in bs == volume (entire tops))
   unfolding weight_in
-  covered d = over_span both f c tops (λ s. leb 1 (weight_at bs s)) four out ∙ whole_is tops bs fit d
+  covered d = over_span both f c tops (λ s. nat_le 1 (weight_at bs s)) four out ∙ whole_is tops bs fit d
 
 -- a value above its top lies in no box that fits
 inside_under : (ts : List ℕ) (xs : List Side) (s : List ℕ) (k : ℕ) → fits ts xs ≡ true → inside xs s ≡ true → k < length ts → slice_index s k ≤ slice_index ts k
@@ -147,9 +147,9 @@ module _ (f c : ℕ) (tops : List ℕ) (bs : List WeightedBox) (four : length to
   unfolding peak_of
   peak_of_boxes = peaked f c tops bs four p.out p.fit p.apart
 
-  pub whole_of_all : whole_of (boxed f c tops bs) ≡ (volume_in bs == volume (entire tops))
+  pub whole_of_boxes : whole_of (boxed f c tops bs) ≡ (volume_in bs == volume (entire tops))
   unfolding whole_of
-  whole_of_all = covered f c tops bs four p.out p.fit p.apart
+  whole_of_boxes = covered f c tops bs four p.out p.fit p.apart
 
   simple_carried : (k v : ℕ) → in_span f c k ≡ true → v < 65536 → carried f c bs (step k v) ≡ true
   unfolding carried
@@ -161,9 +161,9 @@ module _ (f c : ℕ) (tops : List ℕ) (bs : List WeightedBox) (four : length to
       and_from _ _ (step_stepped k v h l) (and_from _ _ (step_inside f c k v h l i)
       (all_below_true (suc greatest) _ (λ a m. le-leb _ _ (let s = simple_few tops k v a h l bs p.fit in omega arith))))
 
-  pub laws : Laws (boxed f c tops bs)
+  pub boxes_laws : Laws (boxed f c tops bs)
   unfolding weight_in
-  laws = record {
+  boxes_laws = record {
     least = let t = total_of_boxes in let l = p.least in omega arith;
     most = let t = total_of_boxes in let l = p.most in omega arith;
     some = p.some;

@@ -22,7 +22,7 @@ use Rattle.boxes.specs.declared.takers.Tally.{Tally}
 use Rattle.boxes.specs.Spans.{span_only}
 use Rattle.boxes.specs.Holding.{most_boxes, weight_in, good_boxes, carried, boxed, held, meaning}
 use Rattle.boxes.specs.Takers.{capped, listed, Weighed, Holds}
-use Rattle.boxes.specs.Meanings.{Tested, sound_parts, carries_now, carried_stepped, carried_few, total_of_boxes, peak_of_boxes, whole_of_all, mass_of_boxes, heaviest_of_boxes, mass_most, revised_boxes_is}
+use Rattle.boxes.specs.Meanings.{Tested, sound_parts, carries_now, carried_stepped, carried_few, total_of_boxes, peak_of_boxes, whole_of_boxes, mass_of_boxes, heaviest_of_boxes, mass_most, revised_boxes_is}
 
 few_held : (b : Boxes) → length (held b) ≤ most_boxes
 unfolding held
@@ -32,10 +32,10 @@ few_held b = omega (arith, length-take b.kept.len b.kept.boxes, b.few)
 capped_total : (n : ℕ) → (nat_le 1 (capped n) && nat_le (capped n) (2 ^ 40)) ≡ (nat_le 1 n && nat_le n (2 ^ 40))
 capped_total n = grind (arith, nat_tests)
 
-abbrev pub parts_of : Boxes → Type 0
-parts_of b = Tested b.first b.count b.tops (held b)
+abbrev pub PartsOf : Boxes → Type 0
+PartsOf b = Tested b.first b.count b.tops (held b)
 
-pub parts : (b : Boxes) → (meaning b).sound ≡ true → parts_of b
+pub parts : (b : Boxes) → (meaning b).sound ≡ true → PartsOf b
 parts b e = sound_parts b.first b.count b.tops (held b) e
 
 module _ (b : Boxes) (xs : List WeightedBox) (ex : xs ≡ held b) where
@@ -49,7 +49,7 @@ module _ (b : Boxes) (xs : List WeightedBox) (ex : xs ≡ held b) where
       let l = le-leb (length (held b)) most_boxes (few_held b) in
       rw l (let r : (f && (d && t)) ≡ (fit_all b.tops (held b) && (disjoint (held b) && (nat_le 1 (total_in (held b)) && nat_le (total_in (held b)) (2 ^ 40)))) = cc in r)
 
-  module _ (p : parts_of b) where
+  module _ (p : PartsOf b) where
     pub total_returns : (n : ℕ) → n ≡ capped (total_in xs) → n ≡ total_of (meaning b)
     total_returns n e =
         let t = total_of_boxes b.first b.count b.tops (held b) b.four p in
@@ -61,7 +61,7 @@ module _ (b : Boxes) (xs : List WeightedBox) (ex : xs ≡ held b) where
 
     pub whole_returns : (n v : ℕ) → n ≡ capped (volume_in xs) → v ≡ volume (entire b.tops) → v ≤ 2 ^ 32 → (n == v) ≡ whole_of (meaning b)
     whole_returns n v en ev l =
-        let w = whole_of_all b.first b.count b.tops (held b) b.four p in
+        let w = whole_of_boxes b.first b.count b.tops (held b) b.four p in
         test (volume_in (held b)) (volume (entire b.tops)) (en ∙ ap (λ v. capped (volume_in v)) ex) ev l ∙ sym w
       where
         test : (x y : ℕ) → n ≡ capped x → v ≡ y → v ≤ 2 ^ 32 → (n == v) ≡ (x == y)
@@ -101,7 +101,7 @@ module _ (b : Boxes) (bytes : List ℕ) (q : Question) (h : given (text q) ≡ m
         (k (carried_stepped b.first b.count (held b) (text q) (sym e))).all (carried_few b.first b.count (held b) (text q) (sym e) a)
         ∙ ap (λ z. revised_boxes z a (held b)) (read_text bytes h)
 
-    module _ (p : parts_of b) where
+    module _ (p : PartsOf b) where
       mass_value : t.mass ≡ total_in (revised_boxes bytes a (held b))
       mass_value =
           let m = mass_most b.first b.count b.tops (held b) b.four p bytes a is_carried in

@@ -1,7 +1,7 @@
 -- Folders by their codes: what a change of one leaves of the others.
-use Rattle.std.proofs.Common.{◌≡◌, ℕ, zero, suc, ◌+◌, Bool, true, false, cond, eqb, List, [], ◌∷◌, ◌++◌, map, length, replicate, Some, None, sym, refl, ap, ◌∙◌, arith}
+use Rattle.std.proofs.Common.{◌≡◌, ℕ, zero, suc, Bool, true, false, cond, eqb, List, [], ◌∷◌, ◌++◌, map, length, replicate, Some, None, sym, refl, ap, ◌∙◌, arith}
 use Rattle.std.proofs.lemmas.Bool.{eq-eqb, ne_eqb, eqb-true, false≢true}
-use Rattle.std.specs.List.{AllByRecursion as All}
+use Rattle.std.specs.List.{AllByRecursion}
 use Rattle.std.specs.Option.{option_map}
 use Rattle.belief.specs.Meaning.{Meaning}
 use Rattle.register.specs.Places.{vacant}
@@ -44,7 +44,7 @@ module _ {X : Type 0} (g : Folder X → Folder X) (own : (f : Folder X) → (g f
 -- ---- free folders, behind those that are taken
 
 abbrev pub Taken : List ℕ → Type 0
-Taken cs = All (λ c. c ≡ 0 → ⊥) cs
+Taken cs = AllByRecursion (λ c. c ≡ 0 → ⊥) cs
 
 module _ {X : Type 0} where
   pub vacant_is : (k : ℕ) (cs : List ℕ) (fs : List (Folder X)) → Taken cs → map code fs ≡ cs ++ replicate k 0 → vacant code fs ≡ cond (eqb k 0) None (Some (length cs))

@@ -1,5 +1,5 @@
 -- Memory that stands for a history: each call replies what is stated, and leaves memory that stands for the history with one event more.
-use Rattle.std.proofs.Common.{◌≡◌, ℕ, suc, ◌+◌, ◌-◌, ◌<◌, ◌≤◌, Bool, true, false, cond, not, ◌||◌, eqb, ltb, leb, ◌⊎◌, List, [], ◌∷◌, ◌++◌, map, length, get_or, drop, replicate, is_some, Some, None, Option, sym, refl, ap, ◌∙◌, subst, inl, inr, arith, length-append}
+use Rattle.std.proofs.Common.{◌≡◌, ℕ, suc, ◌+◌, ◌-◌, ◌<◌, ◌≤◌, Bool, true, false, cond, not, ◌||◌, eqb, ltb, nat_le, ◌⊎◌, List, [], ◌∷◌, ◌++◌, map, length, get_or, drop, replicate, is_some, Some, None, Option, sym, refl, ap, ◌∙◌, subst, inl, inr, arith, length-append}
 use Rattle.std.proofs.lemmas.List.{append_assoc, get_or_past}
 use Rattle.std.proofs.lemmas.Bool.{cases_lt, eq-eqb, ne_eqb, eqb-true, eqb-false, leb-true, leb-false, ltb-false, or_parts, not-false, false≢true}
 use Rattle.std.specs.Option.{option_map}
@@ -96,12 +96,12 @@ module _ (w : Setting) (x before : List ℕ) (past : Past) (s : State Meaning) (
   -- ---- enrolling
 
   -- the first free place is the one after those that are taken
-  vacant_same : vacant code s.folders ≡ cond (leb w.places (enrolments past)) None (Some (enrolments past))
+  vacant_same : vacant code s.folders ≡ cond (nat_le w.places (enrolments past)) None (Some (enrolments past))
   vacant_same =
       vacant_is (w.places - enrolments past) (codes past) s.folders (codes_taken w x past st.follows) st.places
-      ∙ ap (λ t. cond t None (Some (enrolments past))) (by (leb w.places (enrolments past)) refl)
+      ∙ ap (λ t. cond t None (Some (enrolments past))) (by (nat_le w.places (enrolments past)) refl)
     where
-      by : (t : Bool) → leb w.places (enrolments past) ≡ t → eqb (w.places - enrolments past) 0 ≡ t
+      by : (t : Bool) → nat_le w.places (enrolments past) ≡ t → eqb (w.places - enrolments past) 0 ≡ t
       by true e = eq-eqb (w.places - enrolments past) 0 (let l = leb-true w.places (enrolments past) e in omega arith)
       by false e = ne_eqb (w.places - enrolments past) 0 (λ z. let l = leb-false w.places (enrolments past) e in omega arith)
 
@@ -119,7 +119,7 @@ module _ (w : Setting) (x before : List ℕ) (past : Past) (s : State Meaning) (
   enrol_same : (o : Offer) → enrolling s o.letter (offered o) ≡ enrol_reply w past o
   unfolding enrol_reply
   enrol_same o =
-      enrol_by (not (threshold o.n o.d)) _ _ (taken_same o.code) (vacant code s.folders) (leb w.places (enrolments past)) (enrolments past) vacant_same
+      enrol_by (not (threshold o.n o.d)) _ _ (taken_same o.code) (vacant code s.folders) (nat_le w.places (enrolments past)) (enrolments past) vacant_same
       _ _ (fitting_same o.start) _ _ (short_same (enrolled o.code o.n o.d o.letter)) (not (whole_of o.start)) (exceeds o.n o.d (peak_of o.start) (total_of o.start))
 
   -- nobody has a code that may be enrolled

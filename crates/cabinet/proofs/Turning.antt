@@ -1,9 +1,9 @@
 -- One call more of a session: its event, the history with it, and the memory that it leaves.
-use Rattle.std.proofs.Common.{◌≡◌, ℕ, zero, suc, ◌+◌, ◌-◌, ◌<◌, ◌≤◌, min, ◌||◌, eqb, ltb, leb, List, [], ◌∷◌, ◌++◌, map, length, get_or, take, drop, set, sym, refl, ap, ◌∙◌, subst, arith, length-take}
-use Rattle.std.proofs.lemmas.List.{take_more, take_more_set, drop-set-lt, drop-drop, drop_all}
+use Rattle.std.proofs.Common.{◌≡◌, ℕ, zero, suc, ◌+◌, ◌-◌, ◌<◌, ◌≤◌, min, ◌||◌, eqb, ltb, List, [], ◌∷◌, ◌++◌, map, length, get_or, take, drop, set, sym, refl, ap, ◌∙◌, subst, arith, length-take}
+use Rattle.std.proofs.lemmas.List.{take_more, take_more_set, drop-set-lt, drop-drop}
 use Rattle.refusal.specs.Replies.{Reply, given}
 use Rattle.belief.specs.Meaning.{Meaning}
-use Rattle.history.specs.Events.{Setting, Event, enrols, Past}
+use Rattle.history.specs.Events.{Setting, enrols, Past}
 use Rattle.cabinet.specs.declared.cabinets.Cabinet.{Cabinet}
 use Rattle.cabinet.specs.declared.folders.Folder.{Folder}
 use Rattle.cabinet.specs.declared.requests.Call.{Call}
@@ -12,7 +12,7 @@ use Rattle.cabinet.specs.Memory.{State, state, meant, understood}
 use Rattle.cabinet.specs.Calls.{misfit, making, after_enrolling}
 use Rattle.history.specs.Judging.{some_below}
 use Rattle.history.proofs.Main.{lawful}
-use Rattle.cabinet.specs.Standing.{setting, offering, Stands, Begins, GoesOn}
+use Rattle.cabinet.specs.Standing.{offering, Stands, Begins}
 use Rattle.cabinet.specs.Sessions.{event, events, after_event, left, Turns, freed, Served}
 use Rattle.cabinet.proofs.Standing.{made, understood_enrolling, freed as codes-free}
 

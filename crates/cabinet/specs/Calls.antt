@@ -1,11 +1,11 @@
 -- What each call replies, the first refusal that applies or else its value, and what it leaves in memory. Assumes nothing.
-use Rattle.std.specs.Prelude.{◌≡◌, ℕ, Bool, cond, not, ◌&&◌, ◌||◌, List, [], is_some, Some, None, Option, ◌==◌, nat_lt, slice_index}
+use Rattle.std.specs.Prelude.{◌≡◌, ℕ, Bool, cond, not, ◌||◌, List, [], is_some, Some, None, Option, ◌==◌, nat_lt, slice_index}
 use Rattle.refusal.specs.Replies.{Reply, given, declined, and_then, refuse_if}
 use Rattle.question.specs.Reading.{reading}
 use Rattle.question.specs.Questions.{answers}
 use Rattle.belief.specs.Meaning.{Meaning, total_of, peak_of, whole_of, mass_of, revised}
 use Rattle.register.specs.Places.{vacant}
-use Rattle.audit.specs.Format.{Line, enrolled, answered, refused, declines}
+use Rattle.audit.specs.Format.{enrolled, answered, refused, declines}
 use Rattle.cabinet.specs.declared.cabinets.Cabinet.{Cabinet}
 use Rattle.cabinet.specs.declared.folders.Folder.{Folder}
 use Rattle.cabinet.specs.declared.views.View.{View}

@@ -1,5 +1,5 @@
 -- What inner functions promise to the calls. Assumes nothing.
-use Rattle.std.specs.Prelude.{◌≡◌, ℕ, ◌+◌, ◌<◌, ◌≤◌, true, false, List, map, length, get_or, Some, slice_index_or}
+use Rattle.std.specs.Prelude.{◌≡◌, ℕ, ◌+◌, ◌<◌, ◌≤◌, true, false, List, map, length, Some, slice_index_or}
 use Rattle.refusal.specs.declared.list.Refusal.{Refusal}
 use Rattle.refusal.specs.Replies.{Reply, given, declined, number_of, place_of}
 use Rattle.question.specs.Expressions.{greatest}
@@ -16,7 +16,7 @@ use Rattle.cabinet.specs.Calls.{known}
 pub record Found {X : Type 0} (means : X → Meaning) (c : Cabinet) (fs : List (Folder X)) (code i : ℕ) : Type 0 where
   pub within : i < length fs
   pub at : first (λ f. f.code) code fs ≡ Some i
-  pub sound : (d : Folder X) → (means (get_or fs i d).belief).sound ≡ true
+  pub sound : (d : Folder X) → (means (slice_index_or fs i d).belief).sound ≡ true
   pub folder : (d : Folder X) → known c (map (meant means) fs) code ≡ given (meant means (slice_index_or fs i d))
 
 -- there is none, and the refusal is not one that is written

@@ -1,16 +1,15 @@
 -- A list of calls with what they returned, as a history, and the memory that a history leaves. Assumes nothing.
-use Rattle.std.specs.Prelude.{◌≡◌, ℕ, List, [], ◌∷◌, map, length, drop, None}
-use Rattle.refusal.specs.Replies.{Reply, given, declined, reply, mapped}
+use Rattle.std.specs.Prelude.{◌≡◌, ℕ, List, [], ◌∷◌, map, None}
+use Rattle.refusal.specs.Replies.{Reply, declined, reply, mapped}
 use Rattle.belief.specs.Meaning.{Meaning}
-use Rattle.history.specs.Events.{Setting, Offer, View, Event, enrols, asks, looks, Past}
+use Rattle.history.specs.Events.{Setting, View, Event, enrols, asks, looks, Past}
 use Rattle.history.specs.Laws.{Lawful}
-use Rattle.cabinet.specs.declared.cabinets.Cabinet.{Cabinet}
 use Rattle.cabinet.specs.declared.folders.Folder.{Folder}
 use Rattle.cabinet.specs.declared.requests.Call.{Call}
 use Rattle.cabinet.specs.declared.requests.Call.TheVariants.{Enrol, Ask, Look}
 use Rattle.cabinet.specs.declared.requests.Return.{Return}
 use Rattle.cabinet.specs.declared.requests.Return.TheVariants.{Enrolled, Asked, Looked}
-use Rattle.cabinet.specs.Memory.{State, state, filed, meant, understood}
+use Rattle.cabinet.specs.Memory.{State, filed}
 use Rattle.cabinet.specs.Calls.{after_enrolling, after_asking}
 use Rattle.cabinet.specs.Standing.{offering, viewed, Stands, GoesOn}
 

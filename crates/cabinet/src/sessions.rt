@@ -3,7 +3,7 @@ ghost use Rattle.refusal.specs.Replies.{reply};
 ghost use Rattle.history.specs.Events.{Setting, Past};
 ghost use Rattle.cabinet.specs.Memory.{understood, state};
 ghost use Rattle.cabinet.specs.Calls.{making};
-ghost use Rattle.cabinet.specs.Standing.{Stands, setting};
+ghost use Rattle.cabinet.specs.Standing.{Stands};
 ghost use Rattle.cabinet.specs.Sessions.{outcome, event, events, left, freed, Turns, Served};
 
 use crate::cabinets::Cabinet;

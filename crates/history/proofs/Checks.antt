@@ -1,5 +1,5 @@
 -- Checks in their order: what a reply tells of them.
-use Rattle.std.proofs.Common.{◌≡◌, ℕ, zero, suc, ◌<◌, Bool, true, false, not, ◌&&◌, ◌||◌, leb, ◌⊎◌, List, length, None, Option, sym, refl, ap, ◌∙◌, inl, inr, ⊎_elim, arith}
+use Rattle.std.proofs.Common.{◌≡◌, ℕ, zero, suc, ◌<◌, Bool, true, false, ◌&&◌, ◌||◌, nat_le, ◌⊎◌, List, length, None, Option, sym, refl, ap, ◌∙◌, inl, inr, ⊎_elim, arith}
 use Rattle.std.proofs.lemmas.Bool.{false≢true, and_from, le-leb, or_cases, or_left, or_right, cases_eq}
 use Rattle.refusal.specs.Replies.{Reply, given, declined, and_then, refuse_if}
 use Rattle.question.specs.Expressions.{longest, Expression, written}
@@ -25,11 +25,11 @@ unread q k p e = by (reading q) e (told q)
     by r e (over t i l w b) = inr cc
 
 -- a question has 1 byte, and no more than the most
-pub read_size : (q : List ℕ) (t : Expression) → reading q ≡ given t → (leb 1 (length q) && leb (length q) longest) ≡ true
+pub read_size : (q : List ℕ) (t : Expression) → reading q ≡ given t → (nat_le 1 (length q) && nat_le (length q) longest) ≡ true
 read_size q t e = by (reading q) e (told q)
   where
-    by : (r : Reply Expression) → r ≡ given t → Told q r → (leb 1 (length q) && leb (length q) longest) ≡ true
-    by r e (asked u l w b) = let n = some u in let m : length q ≡ length (written u) = ap length w in and_from (leb 1 (length q)) (leb (length q) longest) (le-leb 1 (length q) (omega arith)) (le-leb (length q) longest l)
+    by : (r : Reply Expression) → r ≡ given t → Told q r → (nat_le 1 (length q) && nat_le (length q) longest) ≡ true
+    by r e (asked u l w b) = let n = some u in let m : length q ≡ length (written u) = ap length w in and_from (nat_le 1 (length q)) (nat_le (length q) longest) (le-leb 1 (length q) (omega arith)) (le-leb (length q) longest l)
     by r e (long l) = absurd (let z : ◌≡◌ {A = ℕ} 0 1 = cc in omega arith)
     by r e (wrong i l w) = absurd (let z : ◌≡◌ {A = ℕ} 0 1 = cc in omega arith)
     by r e (over u i l w b) = absurd (let z : ◌≡◌ {A = ℕ} 0 1 = cc in omega arith)

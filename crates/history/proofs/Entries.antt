@@ -1,9 +1,9 @@
 -- What the checks tell of the entries and of the places: every entry is one that the reader takes, and there is room for all.
-use Rattle.std.proofs.Common.{◌≡◌, ℕ, ◌+◌, ◌-◌, ◌≤◌, Bool, true, false, cond, not, eqb, leb, ◌⊎◌, List, [], ◌∷◌, ◌++◌, length, drop, is_some, Some, None, Option, sym, refl, ap, ◌∙◌, inl, inr, arith, length-append}
+use Rattle.std.proofs.Common.{◌≡◌, ℕ, ◌+◌, ◌-◌, ◌≤◌, Bool, true, false, cond, not, eqb, nat_le, ◌⊎◌, List, [], ◌∷◌, ◌++◌, length, drop, is_some, Some, None, Option, sym, refl, ap, ◌∙◌, inl, inr, arith, length-append}
 use Rattle.std.proofs.ByRecursion.{All-append, All-push, All-weaker}
 use Rattle.std.proofs.lemmas.List.{append_assoc, append-nil, take_at, drop_at, drop-drop, length-drop}
 use Rattle.std.proofs.lemmas.Bool.{false≢true, and_from, le-leb, ltb-false, or_parts, eqb-false}
-use Rattle.std.specs.List.{AllByRecursion as All}
+use Rattle.std.specs.List.{AllByRecursion}
 use Rattle.refusal.specs.Replies.{given, declined, refuse_if}
 use Rattle.question.specs.Expressions.{greatest}
 use Rattle.question.specs.Reading.{reading}
@@ -47,12 +47,12 @@ answer_fits w x past c q a (Some r) e =
     let s : answers q x ≤ greatest = answers_small q x in
     let i = g.own in
     record {
-      valid = and_from (sized (length q)) (leb a greatest) (read_size q g.expression g.reads) (le-leb a greatest (omega arith));
+      valid = and_from (sized (length q)) (nat_le a greatest) (read_size q g.expression g.reads) (le-leb a greatest (omega arith));
       room = fits w past (line c (answers q x) q) g.room;
     }
 
 refusal_fits : (w : Setting) (x : List ℕ) (past : Past) (c : ℕ) (q : List ℕ) (k : ℕ) (t : Bool) → declines k ≡ t →
-    Refused (reading q) (short w past (line c (answers q x) q)) k → All (Fitting w past) (cond t (refused-line c k q ∷ []) [])
+    Refused (reading q) (short w past (line c (answers q x) q)) k → AllByRecursion (Fitting w past) (cond t (refused-line c k q ∷ []) [])
 refusal_fits w x past c q k false d r = tt
 refusal_fits w x past c q k true d (no_code i) = absurd (false≢true (sym (ap declines i) ∙ d))
 refusal_fits w x past c q k true d (no_question (inl i)) = absurd (false≢true (sym (ap declines i) ∙ d))
@@ -62,7 +62,7 @@ refusal_fits w x past c q k true d (later e i l n) =
     (record { valid = and_from (sized (length q)) (declines k) (read_size q e i) d; room = fits w past (line c (answers q x) q) l }, tt)
 
 -- every entry is such
-pub lines_fit : (w : Setting) (x : List ℕ) (past : Past) (e : Event) → Stated w x past e → All (Fitting w past) (lines e)
+pub lines_fit : (w : Setting) (x : List ℕ) (past : Past) (e : Event) → Stated w x past e → AllByRecursion (Fitting w past) (lines e)
 lines_fit w x past (enrols o (given k)) s =
     (record { valid = refl; room = fits w past (enrolled o.code o.n o.d o.letter) (enrolment w past o k s).room }, tt)
 lines_fit w x past (enrols o (declined k p)) s = tt
@@ -70,7 +70,7 @@ lines_fit w x past (asks c q (given a)) s = (answer_fits w x past c q a (known p
 lines_fit w x past (asks c q (declined k p)) s = refusal_fits w x past c q k (declines k) refl (refusing w x past c q k p s)
 lines_fit w x past (looks c r) s = tt
 
-pub valid_entries : (w : Setting) (x : List ℕ) (h : Past) → Follows w x h → All Valid (entries h)
+pub valid_entries : (w : Setting) (x : List ℕ) (h : Past) → Follows w x h → AllByRecursion Valid (entries h)
 valid_entries w x [] fol = tt
 valid_entries w x (e ∷ past) fol =
     All-append Valid (entries past) (lines e) (valid_entries w x past fol.0)
@@ -124,7 +124,7 @@ pub fits_room : (w : Setting) (x : List ℕ) (h : Past) → Follows w x h → le
 fits_room w x [] fol = omega arith
 fits_room w x (e ∷ past) fol = by (lines e) (one_line e) (lines_fit w x past e fol.1) (fits_room w x past fol.0) (ap length (written_more e past) ∙ length-append (written past) (encodes (lines e)))
   where
-    by : (ls : List Line) → (ls ≡ []) ⊎ ((l : Line) × (ls ≡ l ∷ [])) → All (Fitting w past) ls → length (written past) ≤ w.room →
+    by : (ls : List Line) → (ls ≡ []) ⊎ ((l : Line) × (ls ≡ l ∷ [])) → AllByRecursion (Fitting w past) ls → length (written past) ≤ w.room →
         length (written (e ∷ past)) ≡ length (written past) + length (encodes ls) → length (written (e ∷ past)) ≤ w.room
     by [] o f l i = omega arith
     by (m ∷ []) o f l i = let r = f.0.room in let n : length (encode m ++ []) ≡ length (encode m) = ap length (append-nil (encode m)) in omega arith
@@ -132,7 +132,7 @@ fits_room w x (e ∷ past) fol = by (lines e) (one_line e) (lines_fit w x past e
     by (m ∷ n ∷ ls) (inr j) f l i = absurd (let k = j.1 in let z : ◌≡◌ {A = ℕ} 0 1 = cc in omega arith)
 
 -- no code that was enrolled is 0
-pub codes_taken : (w : Setting) (x : List ℕ) (h : Past) → Follows w x h → All (λ c. c ≡ 0 → ⊥) (codes h)
+pub codes_taken : (w : Setting) (x : List ℕ) (h : Past) → Follows w x h → AllByRecursion (λ c. c ≡ 0 → ⊥) (codes h)
 codes_taken w x [] fol = tt
 codes_taken w x (enrols o (given k) ∷ past) fol =
     All-push (λ c. c ≡ 0 → ⊥) (codes past) o.code (codes_taken w x past fol.0)

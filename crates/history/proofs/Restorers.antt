@@ -1,5 +1,5 @@
 -- What holds of every restorer, from his enrolment on and through every answer.
-use Rattle.std.proofs.Common.{◌≡◌, ℕ, ◌*◌, ◌<◌, ◌≤◌, Bool, true, false, cond, not, ◌&&◌, ◌||◌, eqb, leb, ◌⊎◌, List, [], ◌∷◌, is_some, Some, None, Option, sym, refl, ap, ◌∙◌, subst, inl, inr, mul-le-mul_right, zero-mul, arith}
+use Rattle.std.proofs.Common.{◌≡◌, ℕ, ◌*◌, ◌<◌, ◌≤◌, Bool, true, false, cond, not, ◌&&◌, ◌||◌, eqb, nat_le, ◌⊎◌, List, [], ◌∷◌, is_some, Some, None, Option, sym, refl, ap, ◌∙◌, subst, inl, inr, mul-le-mul_right, zero-mul, arith}
 use Rattle.std.proofs.lemmas.Bool.{both_ways, cases_lt, and_parts, eq-eqb, eqb-true, leb-true, ltb-false, not-false}
 use Rattle.std.proofs.lemmas.Slice.Eq.{bytes_eq-Decides}
 use Rattle.std.proofs.lemmas.List.{append-nil}
@@ -21,11 +21,11 @@ use Rattle.history.proofs.Telling.{held_hears, Heavy, above_heavy, tells_too_muc
 
 -- the checks that an enrolment passed
 pub enrolment : (w : Setting) (past : Past) (o : Offer) (k : ℕ) → given k ≡ enrol_reply w past o →
-    Cleared (eqb o.code 0 || is_some (known past o.code)) (leb w.places (enrolments past)) (not (fitting w.count w.tops o.start))
+    Cleared (eqb o.code 0 || is_some (known past o.code)) (nat_le w.places (enrolments past)) (not (fitting w.count w.tops o.start))
     (short w past (enrolled o.code o.n o.d o.letter)) (not (whole_of o.start)) (exceeds o.n o.d (peak_of o.start) (total_of o.start))
 unfolding enrol_reply
 enrolment w past o k e =
-    cleared (not (threshold o.n o.d)) (eqb o.code 0 || is_some (known past o.code)) (leb w.places (enrolments past))
+    cleared (not (threshold o.n o.d)) (eqb o.code 0 || is_some (known past o.code)) (nat_le w.places (enrolments past))
     (not (fitting w.count w.tops o.start)) (short w past (enrolled o.code o.n o.d o.letter)) (not (whole_of o.start)) (exceeds o.n o.d (peak_of o.start) (total_of o.start)) (enrolments past) k e
 
 -- the checks that an answered question passed
@@ -65,7 +65,7 @@ low m n d s i e h =
 
 weighs : (m : Meaning) (s : List ℕ) → Within m.tops s → whole_of m ≡ true → 1 ≤ m.weight s
 unfolding whole_of
-weighs m s i e = leb-true 1 (m.weight s) (all_at m.tops s i.long i.below (λ t. leb 1 (m.weight t)) e)
+weighs m s i e = leb-true 1 (m.weight s) (all_at m.tops s i.long i.below (λ t. nat_le 1 (m.weight t)) e)
 
 -- an impossible answer leaves no weight
 none : (m : Meaning) (n d : ℕ) (q : List ℕ) (a : ℕ) (s : List ℕ) → Within m.tops s → mass_of m q a ≤ 0 → Heavy m n d q a s → ⊥

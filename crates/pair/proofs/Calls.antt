@@ -6,7 +6,7 @@ use Rattle.belief.specs.Calls.{replied}
 use Rattle.belief.proofs.Replies.{replied_map}
 use Rattle.pair.specs.Pairs.{paired, within}
 use Rattle.pair.specs.Folds.{Parts, pair_total, pair_peak, pair_whole, mass_left, mass_right, heaviest_left, heaviest_right, total_most, peak_most, mass_most, heaviest_most}
-use Rattle.pair.specs.Laws.{pair_laws}
+use Rattle.pair.specs.Soundness.{pair_laws}
 use Rattle.pair.proofs.Revisings.{by_left, by_right}
 
 -- a product that stops at the greatest number of 64 bits

@@ -1,5 +1,5 @@
 -- Revising a side revises the pair.
-use Rattle.std.proofs.Common.{◌≡◌, ℕ, ◌*◌, ◌≤◌, Bool, true, false, ◌&&◌, eqb, leb, List, [], ◌∷◌, Ok, Err, Result, sym, refl, ap, ◌∙◌, mul-le-mul_right, mul_comm, mul-le-mul, zero-mul, arith, ne_eqb, eqb-true, le-leb, leb-true}
+use Rattle.std.proofs.Common.{◌≡◌, ℕ, ◌*◌, ◌≤◌, Bool, true, false, ◌&&◌, eqb, nat_le, List, [], ◌∷◌, Ok, Err, Result, sym, refl, ap, ◌∙◌, mul-le-mul_right, mul_comm, mul-le-mul, zero-mul, arith, ne_eqb, eqb-true, le-leb, leb-true}
 use borrow.Author.Tests.{eqb-false}
 use Rattle.refusal.specs.declared.list.Refusal.{Refusal}
 use Rattle.refusal.specs.Replies.{Reply}
@@ -32,7 +32,7 @@ total_falls : (m : Meaning) (q : List ℕ) (a : ℕ) → total_of (revised m q a
 unfolding total_of revised mass_of
 total_falls m q a = mass_total m q a
 
-and_leb : (b : Bool) (x y n : ℕ) → x ≤ y → (b && leb y n) ≡ true → (b && leb x n) ≡ (b && leb y n)
+and_leb : (b : Bool) (x y n : ℕ) → x ≤ y → (b && nat_le y n) ≡ true → (b && nat_le x n) ≡ (b && nat_le y n)
 and_leb true x y n h e = let k : y ≤ n = leb-true y n e in le-leb x n (omega arith) ∙ sym e
 and_leb false x y n h e = refl
 

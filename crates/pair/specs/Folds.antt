@@ -1,5 +1,5 @@
 -- The folds of a pair from those of its sides.
-use Rattle.std.specs.Prelude.{◌≡◌, ℕ, ◌+◌, ◌*◌, ◌^◌, ◌≤◌, max, Bool, true, false, cond, ◌&&◌, leb, List, ◌==◌, nat_le}
+use Rattle.std.specs.Prelude.{◌≡◌, ℕ, ◌+◌, ◌*◌, ◌^◌, ◌≤◌, max, Bool, true, false, cond, ◌&&◌, nat_le, List, ◌==◌}
 use Rattle.std.proofs.Math.Path.{refl, ap}
 use Rattle.std.proofs.Common.{sym, ◌∙◌, arith, zero-mul, mul-zero, mul-le-mul, leb-true, le-leb, leb-false, eqb-true}
 use Rattle.question.specs.Questions.{answers, in_span, reads_in}
@@ -69,10 +69,10 @@ leb_product x y true true e h =
     le-leb 1 (x * y) (omega arith) ∙ simp (e, h)
 leb_product x y true false e h =
     let b = leb-false 1 y h in let z : y ≡ 0 = omega arith in
-    ap (λ t. leb 1 (x * t)) z ∙ ap (leb 1) (mul-zero x) ∙ simp (e, h)
+    ap (λ t. nat_le 1 (x * t)) z ∙ ap (nat_le 1) (mul-zero x) ∙ simp (e, h)
 leb_product x y false c e h =
     let b = leb-false 1 x e in let z : x ≡ 0 = omega arith in
-    ap (λ t. leb 1 (t * y)) z ∙ ap (leb 1) (zero-mul y) ∙ simp e
+    ap (λ t. nat_le 1 (t * y)) z ∙ ap (nat_le 1) (zero-mul y) ∙ simp e
 
 -- a fold over the sheets of a pair
 module _ (l r : Meaning) (p : Parts l r) where
@@ -92,7 +92,7 @@ module _ (l r : Meaning) (p : Parts l r) where
   pub pair_whole : whole_of (paired l r) ≡ both (whole_of l) (whole_of r)
   unfolding whole_of
   pair_whole = over_cong both (joined l.tops r.tops) _ _ (λ s. leb_product (l.weight s) (r.weight s) _ _ refl refl)
-      ∙ fold_pair both both both_scales (λ s. leb 1 (l.weight s)) (λ s. leb 1 (r.weight s)) (λ s t h. ap (leb 1) (p.lawful_left.local s t h)) (λ s t h. ap (leb 1) (p.lawful_right.local s t h))
+      ∙ fold_pair both both both_scales (λ s. nat_le 1 (l.weight s)) (λ s. nat_le 1 (r.weight s)) (λ s t h. ap (nat_le 1) (p.lawful_left.local s t h)) (λ s t h. ap (nat_le 1) (p.lawful_right.local s t h))
 
   module _ (q : List ℕ) (a : ℕ) where
     pub mass_left : within l q ≡ true → mass_of (paired l r) q a ≡ mass_of l q a * total_of r

@@ -1,4 +1,4 @@
 pub mod Pairs
 pub mod Cases
 pub mod Folds
-pub mod Laws
+pub mod Soundness

@@ -3,7 +3,7 @@ ghost use Rattle.std.specs.Prelude.{◌≡◌, ◌*◌, min, true};
 ghost use Rattle.question.specs.Texts.{text};
 ghost use Rattle.pair.specs.Pairs.{paired, within};
 ghost use Rattle.pair.specs.Folds.{parts};
-ghost use Rattle.pair.specs.Laws.{pair_laws};
+ghost use Rattle.pair.specs.Soundness.{pair_laws};
 
 use crate::joint::Pair;
 use crate::making::{good_sides, is_light};

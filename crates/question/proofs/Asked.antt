@@ -21,9 +21,9 @@ pub asks : (q : List ℕ) → given tt ≡ checked (reading q) → is_question q
 unfolding is_question
 asks q h = ap (read_or false (λ e. true)) (accepted q h).reads
 
-pub made_asked : (q : List ℕ) (r : Result (Unit {0}) Refusal) → reply r ≡ checked (reading q) → IfOk r (λ _. is_question q ≡ true)
-made_asked q (Ok u) h = asks q h
-made_asked q (Err e) h = tt
+pub asked_if_ok : (q : List ℕ) (r : Result (Unit {0}) Refusal) → reply r ≡ checked (reading q) → IfOk r (λ _. is_question q ≡ true)
+asked_if_ok q (Ok u) h = asks q h
+asked_if_ok q (Err e) h = tt
 
 -- what the walks over its bytes ask for
 pub begins : {q : List ℕ} → Accepted q → Begins Small q

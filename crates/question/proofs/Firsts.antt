@@ -1,5 +1,5 @@
 -- The first of some commands whose bound passes the limit.
-use Rattle.std.proofs.Common.{◌≡◌, ℕ, ◌<◌, ◌≤◌, Bool, true, false, cond, leb, List, [], ◌∷◌, ◌++◌, Some, None, Option, refl, ap, ◌∙◌, arith, leb-false, leb-true}
+use Rattle.std.proofs.Common.{◌≡◌, ℕ, ◌<◌, ◌≤◌, Bool, true, false, cond, nat_le, List, [], ◌∷◌, ◌++◌, Some, None, Option, refl, ap, ◌∙◌, arith, leb-false, leb-true}
 use Rattle.std.proofs.lemmas.Bool.Decides.{nat_tests}
 use Rattle.question.specs.Expressions.{limit, Placed}
 use Rattle.question.specs.Reading.{first_over}
@@ -16,17 +16,17 @@ some_by false p q u v f e = e
 -- it is the second list's if the first has none, and else the first's
 pub first_none : (cs ds : List Placed) → first_over cs ≡ None → first_over (cs ++ ds) ≡ first_over ds
 first_none [] ds e = refl
-first_none (c ∷ cs) ds e = none_by (leb c.size limit) c.place (first_over cs) (first_over (cs ++ ds)) (first_over ds) (first_none cs ds) e
+first_none (c ∷ cs) ds e = none_by (nat_le c.size limit) c.place (first_over cs) (first_over (cs ++ ds)) (first_over ds) (first_none cs ds) e
 
 pub first_some : (cs ds : List Placed) {q : ℕ} → first_over cs ≡ Some q → first_over (cs ++ ds) ≡ Some q
 first_some [] ds e = let z : ◌≡◌ {A = ℕ} 0 1 = cc in absurd (omega arith)
-first_some (c ∷ cs) ds {q} e = some_by (leb c.size limit) c.place q (first_over cs) (first_over (cs ++ ds)) (first_some cs ds) e
+first_some (c ∷ cs) ds {q} e = some_by (nat_le c.size limit) c.place q (first_over cs) (first_over (cs ++ ds)) (first_some cs ds) e
 
 pub here : (c : Placed) (cs : List Placed) → limit < c.size → first_over (c ∷ cs) ≡ Some c.place
-here c cs h = let e : leb c.size limit ≡ false = grind (arith, nat_tests) in rw e
+here c cs h = let e : nat_le c.size limit ≡ false = grind (arith, nat_tests) in rw e
 
 pub clear : (c : Placed) (cs : List Placed) → c.size ≤ limit → first_over (c ∷ cs) ≡ first_over cs
-clear c cs h = let e : leb c.size limit ≡ true = grind (arith, nat_tests) in rw e
+clear c cs h = let e : nat_le c.size limit ≡ true = grind (arith, nat_tests) in rw e
 
 -- where two lists have none, neither has one
 split_by : (x : Bool) (p : ℕ) (u v w : Option ℕ) → (v ≡ None → (u ≡ None) × (w ≡ None)) → cond x v (Some p) ≡ None → (cond x u (Some p) ≡ None) × (w ≡ None)
@@ -35,23 +35,23 @@ split_by false p u v w f e = let z : ◌≡◌ {A = ℕ} 0 1 = cc in absurd (ome
 
 pub both_none : (cs ds : List Placed) → first_over (cs ++ ds) ≡ None → (first_over cs ≡ None) × (first_over ds ≡ None)
 both_none [] ds e = (refl, e)
-both_none (c ∷ cs) ds e = split_by (leb c.size limit) c.place (first_over cs) (first_over (cs ++ ds)) (first_over ds) (both_none cs ds) e
+both_none (c ∷ cs) ds e = split_by (nat_le c.size limit) c.place (first_over cs) (first_over (cs ++ ds)) (first_over ds) (both_none cs ds) e
 
 -- ---- and what it is
 
-within_by : (c : Placed) (cs : List Placed) (x : Bool) → leb c.size limit ≡ x → (first_over cs ≡ None → Within cs) → cond x (first_over cs) (Some c.place) ≡ None → Within (c ∷ cs)
+within_by : (c : Placed) (cs : List Placed) (x : Bool) → nat_le c.size limit ≡ x → (first_over cs ≡ None → Within cs) → cond x (first_over cs) (Some c.place) ≡ None → Within (c ∷ cs)
 within_by c cs true l f e = (leb-true c.size limit l, f e)
 within_by c cs false l f e = let z : ◌≡◌ {A = ℕ} 0 1 = cc in absurd (omega arith)
 
 pub none_within : (cs : List Placed) → first_over cs ≡ None → Within cs
 none_within [] e = tt
-none_within (c ∷ cs) e = within_by c cs (leb c.size limit) refl (none_within cs) e
+none_within (c ∷ cs) e = within_by c cs (nat_le c.size limit) refl (none_within cs) e
 
 pub within_none : (cs : List Placed) → Within cs → first_over cs ≡ None
 within_none [] w = refl
 within_none (c ∷ cs) w = clear c cs w.0 ∙ within_none cs w.1
 
-passing_by : (c : Placed) (cs : List Placed) {p : ℕ} (x : Bool) → leb c.size limit ≡ x → (first_over cs ≡ Some p → Passing cs p) → cond x (first_over cs) (Some c.place) ≡ Some p → Passing (c ∷ cs) p
+passing_by : (c : Placed) (cs : List Placed) {p : ℕ} (x : Bool) → nat_le c.size limit ≡ x → (first_over cs ≡ Some p → Passing cs p) → cond x (first_over cs) (Some c.place) ≡ Some p → Passing (c ∷ cs) p
 passing_by c cs true l f e =
     let r = f e in
     record {
@@ -76,7 +76,7 @@ passing_by c cs {p} false l f e =
 
 pub some_passing : (cs : List Placed) {p : ℕ} → first_over cs ≡ Some p → Passing cs p
 some_passing [] e = let z : ◌≡◌ {A = ℕ} 0 1 = cc in absurd (omega arith)
-some_passing (c ∷ cs) e = passing_by c cs (leb c.size limit) refl (some_passing cs) e
+some_passing (c ∷ cs) e = passing_by c cs (nat_le c.size limit) refl (some_passing cs) e
 
 pub passing_some : (cs : List Placed) {p : ℕ} → Passing cs p → first_over cs ≡ Some p
 passing_some cs r =

@@ -1,5 +1,5 @@
 -- The reading of bytes agrees with expressions and with the scan of slots.
-use Rattle.std.proofs.Common.{◌≡◌, ℕ, zero, suc, ◌+◌, ◌-◌, ◌<◌, ◌≤◌, Bool, true, false, cond, leb, List, [], ◌∷◌, ◌++◌, length, Some, None, Option, sym, refl, ap, ◌∙◌, subst, append_assoc, le_refl, arith, length-append, leb-true}
+use Rattle.std.proofs.Common.{◌≡◌, ℕ, zero, suc, ◌+◌, ◌-◌, ◌<◌, ◌≤◌, Bool, true, false, cond, nat_le, List, [], ◌∷◌, ◌++◌, length, Some, None, Option, sym, refl, ap, ◌∙◌, subst, append_assoc, le_refl, arith, length-append, leb-true}
 use Rattle.std.proofs.lemmas.Bool.Decides.{nat_tests}
 use Rattle.question.specs.Expressions.{longest, Op, first, second, third, fourth, index, Expression, field, number, two, nought, choose, written, sign, stands, completed}
 use Rattle.refusal.specs.Replies.{Reply, given, declined, mapped}
@@ -89,13 +89,13 @@ index_of (suc (suc (suc (suc k)))) h = absurd (omega arith)
 abbrev shut : Bool → Option (List Slot)
 shut x = cond x (Some []) None
 
-agree_which : (k : ℕ) (bs : List ℕ) (x : Bool) → leb k 3 ≡ x → Agree (102 ∷ k ∷ bs) (cond x (found (field (field_of k)) bs) (wrong (length (k ∷ bs))))
+agree_which : (k : ℕ) (bs : List ℕ) (x : Bool) → nat_le k 3 ≡ x → Agree (102 ∷ k ∷ bs) (cond x (found (field (field_of k)) bs) (wrong (length (k ∷ bs))))
 agree_which k bs true e = ap (λ i. 102 ∷ i ∷ bs) (index_of k (leb-true k 3 e))
 agree_which k bs false e = record { whatever = λ ss. ap (λ x. (elim (shut x) [ None ↦ Some (length (k ∷ bs)) | Some new ↦ stuck (new ++ ss) bs ])) e }
 
 agree_field : (bs : List ℕ) → Agree (102 ∷ bs) (field_front bs)
 agree_field [] = record { whatever = λ ss. refl }
-agree_field (k ∷ bs) = agree_which k bs (leb k 3) refl
+agree_field (k ∷ bs) = agree_which k bs (nat_le k 3) refl
 
 agree_number : (bs : List ℕ) → Agree (99 ∷ bs) (number_front bs)
 agree_number [] = record { whatever = λ ss. refl }
@@ -143,11 +143,11 @@ found_front bs t rest e = ap (front (length bs)) e ∙ front_written t (length b
 
 pub reading_short : (bs : List ℕ) (F : Front) → length bs ≤ longest → front (length bs) bs ≡ F → reading bs ≡ whole (length bs) F
 unfolding reading
-reading_short bs F h e = let s : leb (length bs) longest ≡ true = grind (arith, nat_tests) in rw s (ap (whole (length bs)) e)
+reading_short bs F h e = let s : nat_le (length bs) longest ≡ true = grind (arith, nat_tests) in rw s (ap (whole (length bs)) e)
 
 pub reading_long : (bs : List ℕ) → longest < length bs → reading bs ≡ declined 9 (Some longest)
 unfolding reading
-reading_long bs h = let s : leb (length bs) longest ≡ false = grind (arith, nat_tests) in rw s
+reading_long bs h = let s : nat_le (length bs) longest ≡ false = grind (arith, nat_tests) in rw s
 
 -- ---- what is accepted
 
@@ -186,7 +186,7 @@ accepted_front bs (wrong l) m g r h = let z : ◌≡◌ {A = ℕ} 0 1 = cc in ab
 accepted_front bs (found t []) m g r h = accepted_over bs t (first_over (completed 0 t)) m refl g r h
 accepted_front bs (found t (b ∷ q)) m g r h = let z : ◌≡◌ {A = ℕ} 0 1 = cc in absurd (omega arith)
 
-accepted_length : (bs : List ℕ) (x : Bool) → leb (length bs) longest ≡ x → given tt ≡ checked (reading bs) → Accepted bs
+accepted_length : (bs : List ℕ) (x : Bool) → nat_le (length bs) longest ≡ x → given tt ≡ checked (reading bs) → Accepted bs
 unfolding reading
 accepted_length bs true e h =
     let m = leb-true (length bs) longest e in
@@ -198,7 +198,7 @@ accepted_length bs false e h =
     let z : ◌≡◌ {A = ℕ} 0 1 = cc in absurd (omega arith)
 
 pub accepted : (bs : List ℕ) → given tt ≡ checked (reading bs) → Accepted bs
-accepted bs h = accepted_length bs (leb (length bs) longest) refl h
+accepted bs h = accepted_length bs (nat_le (length bs) longest) refl h
 
 -- ---- what is left is never more than there is
 

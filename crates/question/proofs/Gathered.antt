@@ -1,5 +1,5 @@
 -- The steps among the commands are those of the expression.
-use Rattle.std.proofs.Common.{◌≡◌, ℕ, zero, suc, pred, ◌+◌, ◌-◌, ◌*◌, ◌/◌, ◌%◌, ◌<◌, ◌≤◌, Bool, true, false, cond, ◌&&◌, ◌||◌, eqb, leb, List, [], ◌∷◌, ◌++◌, length, get_or, take, drop, is_some, Some, None, Option, sym, refl, ap, ◌∙◌, append_assoc, append-nil, arith, length-drop, take_all}
+use Rattle.std.proofs.Common.{◌≡◌, ℕ, zero, suc, pred, ◌+◌, ◌-◌, ◌*◌, ◌/◌, ◌%◌, ◌<◌, ◌≤◌, Bool, true, false, cond, ◌&&◌, ◌||◌, eqb, nat_le, List, [], ◌∷◌, ◌++◌, length, get_or, take, drop, is_some, Some, None, Option, sym, refl, ap, ◌∙◌, append_assoc, append-nil, arith, length-drop, take_all}
 use Rattle.std.proofs.lemmas.Bool.Decides.{nat_tests}
 use Rattle.question.specs.declared.steps.Step.{Step}
 use Rattle.question.specs.Expressions.{Op, plus, minus, times, less, equal, and, or, Field, index, Expression, field, number, two, nought, choose, written, sign}
@@ -36,7 +36,7 @@ joined_two false b ts us r = refl
 -- ---- a step at the front is the expression
 
 front_number : (k : Field) (b : Expression) (rest : List ℕ) → front_step (60 ∷ (written (field k) ++ written b) ++ rest) ≡ number_step (index k) b
-front_number k (number hi lo) rest = let e : leb 6 (length (60 ∷ 102 ∷ index k ∷ 99 ∷ hi ∷ lo ∷ rest)) ≡ true = grind (arith, nat_tests) in rw e
+front_number k (number hi lo) rest = let e : nat_le 6 (length (60 ∷ 102 ∷ index k ∷ 99 ∷ hi ∷ lo ∷ rest)) ≡ true = grind (arith, nat_tests) in rw e
 front_number k (field j) rest = refl
 front_number k (two o a b) rest = rw (sign_apart o).1
 front_number k (nought a) rest = refl

@@ -1,5 +1,5 @@
 -- The laws: unique reading, and the one reply that bytes are told.
-use Rattle.std.proofs.Common.{◌≡◌, ℕ, zero, suc, ◌+◌, ◌-◌, ◌<◌, ◌≤◌, Bool, true, false, ltb, leb, List, [], ◌∷◌, ◌++◌, length, get_or, take, drop, Some, None, Option, sym, refl, ap, ◌∙◌, subst, append_assoc, append-nil, le_refl, add-one, arith, length-append, take-append-drop, take-take, ltb-false, ltb-true, leb-false, leb-true}
+use Rattle.std.proofs.Common.{◌≡◌, ℕ, zero, suc, ◌+◌, ◌-◌, ◌<◌, ◌≤◌, Bool, true, false, ltb, nat_le, List, [], ◌∷◌, ◌++◌, length, get_or, take, drop, Some, None, Option, sym, refl, ap, ◌∙◌, subst, append_assoc, append-nil, le_refl, add-one, arith, length-append, take-append-drop, take-take, ltb-false, ltb-true, leb-false, leb-true}
 use Rattle.question.specs.Expressions.{longest, Expression, written, completed}
 use Rattle.refusal.specs.Replies.{Reply, declined}
 use Rattle.question.specs.Reading.{Front, found, wrong as astray, front, first_over, limits, whole, reading}
@@ -210,7 +210,7 @@ told_front bs (astray l) g h = wrong (length bs - l) h (wrong_at bs l (g.whateve
 told_front bs (found t []) g h = told_limits bs t (first_over (completed 0 t)) h (g ∙ append-nil (written t)) refl
 told_front bs (found t (b ∷ q)) g h = wrong (length bs - length (b ∷ q)) h (wrong_at bs (length (b ∷ q)) (passed {bs = bs} {rest = b ∷ q} (record { tree = t; is = g }) []))
 
-told_by : (bs : List ℕ) (x : Bool) → leb (length bs) longest ≡ x → Told bs (reading bs)
+told_by : (bs : List ℕ) (x : Bool) → nat_le (length bs) longest ≡ x → Told bs (reading bs)
 told_by bs true e =
     let h = leb-true (length bs) longest e in
     let F = front (length bs) bs in
@@ -218,7 +218,7 @@ told_by bs true e =
 told_by bs false e = let h = leb-false (length bs) longest e in subst (Told bs) (sym (reading_long bs h)) (long h)
 
 pub told : (bs : List ℕ) → Told bs (reading bs)
-told bs = told_by bs (leb (length bs) longest) refl
+told bs = told_by bs (nat_le (length bs) longest) refl
 
 -- ---- and nothing else is
 

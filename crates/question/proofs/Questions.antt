@@ -1,9 +1,9 @@
 -- The laws of questions that beliefs rest on.
-use Rattle.std.proofs.Common.{◌≡◌, ℕ, zero, suc, ◌+◌, ◌*◌, ◌/◌, ◌%◌, ◌<◌, ◌≤◌, Bool, true, false, cond, not, ◌&&◌, ◌||◌, eqb, ltb, leb, ◌⊎◌, List, [], ◌∷◌, ◌++◌, length, get_or, ℤ, pos, negsuc, is_some, Some, None, Option, sym, refl, ap, ◌∙◌, subst, inl, inr, add-one, arith, length-take, eq-eqb, eqb-true}
+use Rattle.std.proofs.Common.{◌≡◌, ℕ, zero, suc, ◌+◌, ◌*◌, ◌/◌, ◌%◌, ◌<◌, ◌≤◌, Bool, true, false, cond, not, ◌&&◌, ◌||◌, eqb, ltb, nat_le, ◌⊎◌, List, [], ◌∷◌, ◌++◌, length, get_or, ℤ, pos, negsuc, is_some, Some, None, Option, sym, refl, ap, ◌∙◌, subst, inl, inr, add-one, arith, length-take, eq-eqb, eqb-true}
 use borrow.Author.Tests.{eqb-false}
 use Rattle.std.proofs.ByRecursion.{All-append}
 use Rattle.std.proofs.lemmas.Bool.Decides.{nat_tests}
-use Rattle.std.specs.List.{AllByRecursion as All}
+use Rattle.std.specs.List.{AllByRecursion}
 use Rattle.refusal.specs.Replies.{Reply, given, declined, mapped}
 use Rattle.question.specs.declared.checked.Question.{Question}
 use Rattle.question.specs.declared.steps.Step.{Step}
@@ -171,10 +171,10 @@ one k v = two less (field (field_of k)) (number (v / 256) (v % 256))
 
 reading_step : (k v : ℕ) → k < 4 → v < 65536 → reading (step k v) ≡ given (one k v)
 unfolding reading
-reading_step zero v h l = let e : leb (v / 256 * 256 + v % 256) limit ≡ true = grind (arith, nat_tests) in rw e
-reading_step (suc zero) v h l = let e : leb (v / 256 * 256 + v % 256) limit ≡ true = grind (arith, nat_tests) in rw e
-reading_step (suc (suc zero)) v h l = let e : leb (v / 256 * 256 + v % 256) limit ≡ true = grind (arith, nat_tests) in rw e
-reading_step (suc (suc (suc zero))) v h l = let e : leb (v / 256 * 256 + v % 256) limit ≡ true = grind (arith, nat_tests) in rw e
+reading_step zero v h l = let e : nat_le (v / 256 * 256 + v % 256) limit ≡ true = grind (arith, nat_tests) in rw e
+reading_step (suc zero) v h l = let e : nat_le (v / 256 * 256 + v % 256) limit ≡ true = grind (arith, nat_tests) in rw e
+reading_step (suc (suc zero)) v h l = let e : nat_le (v / 256 * 256 + v % 256) limit ≡ true = grind (arith, nat_tests) in rw e
+reading_step (suc (suc (suc zero))) v h l = let e : nat_le (v / 256 * 256 + v % 256) limit ≡ true = grind (arith, nat_tests) in rw e
 reading_step (suc (suc (suc (suc k)))) v h l = let f : ⊥ = omega arith in elim f [ ]
 
 index_field : (k : ℕ) → k < 4 → index (field_of k) ≡ k
@@ -369,11 +369,11 @@ none_stepped q e = own_none (is_stepped q) (steps_of q) e
 
 -- their fields are among the four
 
-two_four : (o : Op) (a b : Expression) (ts : List Step) (u : Option Step) → two_step o a b ≡ u → All (λ t. t.field < 4) ts → All (λ t. t.field < 4) (alone u ts)
+two_four : (o : Op) (a b : Expression) (ts : List Step) (u : Option Step) → two_step o a b ≡ u → AllByRecursion (λ t. t.field < 4) ts → AllByRecursion (λ t. t.field < 4) (alone u ts)
 two_four o a b ts (Some t) e h = let x = two_as o a b t e in (subst (λ (v : Step). v.field < 4) (sym x.told) (index_four x.k), tt)
 two_four o a b ts None e h = h
 
-four_steps : (e : Expression) → All (λ t. t.field < 4) (steps e)
+four_steps : (e : Expression) → AllByRecursion (λ t. t.field < 4) (steps e)
 four_steps (field k) = tt
 four_steps (number hi lo) = tt
 four_steps (two o a b) =
@@ -382,10 +382,10 @@ four_steps (nought a) = four_steps a
 four_steps (choose a b c) =
     All-append (λ t. t.field < 4) (steps a) (steps b ++ steps c) (four_steps a) (All-append (λ t. t.field < 4) (steps b) (steps c) (four_steps b) (four_steps c))
 
-steps_by : (r : Reply Expression) → All (λ t. t.field < 4) (read_or [] steps r)
+steps_by : (r : Reply Expression) → AllByRecursion (λ t. t.field < 4) (read_or [] steps r)
 steps_by (given e) = four_steps e
 steps_by (declined n p) = tt
 
-pub steps_four : (q : List ℕ) → All (λ t. t.field < 4) (steps_of q)
+pub steps_four : (q : List ℕ) → AllByRecursion (λ t. t.field < 4) (steps_of q)
 unfolding steps_of
 steps_four q = steps_by (reading q)

@@ -2,7 +2,7 @@
 ghost use Rattle.std.specs.Prelude.{◌≡◌, ℕ, ◌+◌, ◌*◌, ◌<◌, ◌≤◌, List, length, IfSome, if◌then◌else◌, MatchResult, slice_index};
 ghost use Rattle.std.specs.Option.{option_map as seen};
 ghost use Rattle.question.specs.Expressions.{longest, limit, truth, is_zero, applied, limited};
-ghost use Rattle.question.specs.Reading.{a_field, a_number, command as command-of};
+ghost use Rattle.question.specs.Reading.{a_field, a_number, command as command_of};
 ghost use Rattle.question.specs.Fronts.{Reads, Stuck, Begins, Any, Each, Small, Worth, Bounded, Passes, Signs, is_sign, op, Both, scan, front_step, prefixed, walk};
 ghost use Rattle.question.specs.Texts.{taken};
 
@@ -124,7 +124,7 @@ fn operand(bytes: &[u8], sheet: [u8; 4]) -> (i64, &[u8])
 // The same for a field.
 fn field_value(bytes: &[u8], sheet: [u8; 4]) -> (i64, &[u8])
     requires begins { Begins Small bytes.now }
-    requires field { command-of (slice_index bytes.now 0) ≡ a_field }
+    requires field { command_of (slice_index bytes.now 0) ≡ a_field }
     ensures { Each (Worth sheet result.0) bytes.now result.1.now }
 {
     match bytes {
@@ -136,7 +136,7 @@ fn field_value(bytes: &[u8], sheet: [u8; 4]) -> (i64, &[u8])
 // The same for a number, whatever the sheet.
 fn number_value(bytes: &[u8]) -> (i64, &[u8])
     requires begins { Begins Small bytes.now }
-    requires number { command-of (slice_index bytes.now 0) ≡ a_number }
+    requires number { command_of (slice_index bytes.now 0) ≡ a_number }
     ensures { (s : List ℕ) → Each (Worth s result.0) bytes.now result.1.now }
 {
     match bytes {
@@ -147,7 +147,7 @@ fn number_value(bytes: &[u8]) -> (i64, &[u8])
 
 // Whether a command is followed by two operands.
 fn takes_two(command: char) -> bool
-    ensures { result ≡ is_sign (command-of command) }
+    ensures { result ≡ is_sign (command_of command) }
 {
     match command {
         '+' | '-' | '*' | '<' | '=' | '&' | '|' => true,

@@ -1,6 +1,6 @@
 -- The pieces of a box are its sheets sorted by what the steps say of them.
 use Rattle.std.proofs.Common.{◌≡◌, ℕ, Bool, true, false, cond, not, ◌&&◌, List, [], ◌∷◌, ◌++◌, map, length, sym, refl, ap, ◌∙◌, arith}
-use Rattle.std.specs.List.{AllByRecursion as All}
+use Rattle.std.specs.List.{AllByRecursion}
 use Rattle.std.proofs.ByRecursion.{All-append, All-weaker, All-map}
 use Rattle.std.proofs.lemmas.Bool.{not-true}
 use Rattle.question.specs.declared.steps.Step.{Step}
@@ -19,13 +19,13 @@ use Rattle.ranges.proofs.Pieces.{Fielded, part, fits_length, at_cut, got}
 
 -- what holds of the pieces of both parts, or of the uncut box, holds of all pieces
 module _ (P : List Side → Type 0) (t : Step) (ts : List Step) (xs : List Side) where
-  by_go : (b : Bool) → (b ≡ true → All P (pieces ts (lower xs t.field t.bound))) → (b ≡ true → All P (pieces ts (upper xs t.field t.bound))) → (b ≡ false → All P (pieces ts xs)) →
-      All P (cond b (pieces ts (lower xs t.field t.bound) ++ pieces ts (upper xs t.field t.bound)) (pieces ts xs))
+  by_go : (b : Bool) → (b ≡ true → AllByRecursion P (pieces ts (lower xs t.field t.bound))) → (b ≡ true → AllByRecursion P (pieces ts (upper xs t.field t.bound))) → (b ≡ false → AllByRecursion P (pieces ts xs)) →
+      AllByRecursion P (cond b (pieces ts (lower xs t.field t.bound) ++ pieces ts (upper xs t.field t.bound)) (pieces ts xs))
   by_go true l u w = All-append P _ _ (l refl) (u refl)
   by_go false l u w = w refl
 
-  by_cut : (cuts xs t.field t.bound ≡ true → All P (pieces ts (lower xs t.field t.bound))) → (cuts xs t.field t.bound ≡ true → All P (pieces ts (upper xs t.field t.bound))) →
-      (cuts xs t.field t.bound ≡ false → All P (pieces ts xs)) → All P (pieces (t ∷ ts) xs)
+  by_cut : (cuts xs t.field t.bound ≡ true → AllByRecursion P (pieces ts (lower xs t.field t.bound))) → (cuts xs t.field t.bound ≡ true → AllByRecursion P (pieces ts (upper xs t.field t.bound))) →
+      (cuts xs t.field t.bound ≡ false → AllByRecursion P (pieces ts xs)) → AllByRecursion P (pieces (t ∷ ts) xs)
   unfolding pieces
   by_cut l u w = by_go (cuts xs t.field t.bound) l u w
 
@@ -40,7 +40,7 @@ abbrev Alike : List ℕ → List ℕ → List Side → Type 0
 Alike s u p = inside p s ≡ inside p u
 
 -- pieces lie inside their box
-pieces_inside : (ts : List Step) (xs : List Side) → All (Within xs) (pieces ts xs)
+pieces_inside : (ts : List Step) (xs : List Side) → AllByRecursion (Within xs) (pieces ts xs)
 unfolding pieces
 pieces_inside [] xs = ((λ s i. i), tt)
 pieces_inside (t ∷ ts) xs =
@@ -49,12 +49,12 @@ pieces_inside (t ∷ ts) xs =
     (λ c. All-weaker (Within (upper xs t.field t.bound)) (Within xs) (λ p h s i. and_left (inside xs s) _ (sym (in_upper xs t.field t.bound s c) ∙ h s i)) _ (pieces_inside ts (upper xs t.field t.bound)))
     (λ c. pieces_inside ts xs)
 
-both : (P Q : List Side → Type 0) (ps : List (List Side)) → All P ps → All Q ps → All (λ p. P p × Q p) ps
+both : (P Q : List Side → Type 0) (ps : List (List Side)) → AllByRecursion P ps → AllByRecursion Q ps → AllByRecursion (λ p. P p × Q p) ps
 both P Q [] a b = tt
 both P Q (p ∷ ps) a b = ((a.0, b.0), both P Q ps a.1 b.1)
 
 -- of two sheets of one piece every step says the same
-pub pieces_agree : (ts : List Step) (xs : List Side) → Fielded (length xs) ts → All (Agrees ts) (pieces ts xs)
+pub pieces_agree : (ts : List Step) (xs : List Side) → Fielded (length xs) ts → AllByRecursion (Agrees ts) (pieces ts xs)
 unfolding pieces
 pieces_agree [] xs fl = ((λ s u i j. tt), tt)
 pieces_agree (t ∷ ts) xs fl =
@@ -73,14 +73,14 @@ pieces_agree (t ∷ ts) xs fl =
     (pieces ts xs) (both (Within xs) (Agrees ts) (pieces ts xs) (pieces_inside ts xs) (pieces_agree ts xs fl.1)))
 
 -- two sheets of the box of which every step says the same lie in the same pieces
-not_inside : (ts : List Step) (xs : List Side) (s u : List ℕ) → inside xs s ≡ false → inside xs u ≡ false → All (Alike s u) (pieces ts xs)
+not_inside : (ts : List Step) (xs : List Side) (s u : List ℕ) → inside xs s ≡ false → inside xs u ≡ false → AllByRecursion (Alike s u) (pieces ts xs)
 not_inside ts xs s u i j = All-weaker (Within xs) (Alike s u) (λ p h. out (inside p s) (h s) i ∙ sym (out (inside p u) (h u) j)) (pieces ts xs) (pieces_inside ts xs)
   where
     out : {c : Bool} (b : Bool) → (b ≡ true → c ≡ true) → c ≡ false → b ≡ false
     out {c} true h e = impossible c e (h refl)
     out false h e = refl
 
-pub pieces_joint : (ts : List Step) (xs : List Side) (s u : List ℕ) → inside xs s ≡ true → inside xs u ≡ true → Agree ts s u → All (Alike s u) (pieces ts xs)
+pub pieces_joint : (ts : List Step) (xs : List Side) (s u : List ℕ) → inside xs s ≡ true → inside xs u ≡ true → Agree ts s u → AllByRecursion (Alike s u) (pieces ts xs)
 unfolding pieces
 pieces_joint [] xs s u i j a = (i ∙ sym j, tt)
 pieces_joint (t ∷ ts) xs s u i j a =
@@ -94,7 +94,7 @@ pieces_joint (t ∷ ts) xs s u i j a =
     same : (f : Bool → Bool) {x y : Bool} → x ≡ y → (inside xs s && f x) ≡ (inside xs u && f y)
     same f {x} e = ap (λ z. z && f x) (i ∙ sym j) ∙ ap (λ z. inside xs u && f z) e
 
-    part_joint : (ys : List Side) (b : Bool) → inside ys s ≡ b → inside ys s ≡ inside ys u → (inside ys s ≡ true → inside ys u ≡ true → All (Alike s u) (pieces ts ys)) → All (Alike s u) (pieces ts ys)
+    part_joint : (ys : List Side) (b : Bool) → inside ys s ≡ b → inside ys s ≡ inside ys u → (inside ys s ≡ true → inside ys u ≡ true → AllByRecursion (Alike s u) (pieces ts ys)) → AllByRecursion (Alike s u) (pieces ts ys)
     part_joint ys true e d h = h e (sym d ∙ e)
     part_joint ys false e d h = not_inside ts ys s u e (sym d ∙ e)
 
@@ -109,7 +109,7 @@ unfolding cut
 pieces_once tops ts xs h fl s = sym (at_cut (λ w v. 1) tops s 1 ts xs h fl (λ s u i j a. refl) ∙ count_pieces s (pieces ts xs))
 
 -- so a piece gives one answer
-corners : (ts : List Step) (tops : List ℕ) (xs : List Side) → fits tops xs ≡ true → All (λ p. inside p (corner p) ≡ true) (pieces ts xs)
+corners : (ts : List Step) (tops : List ℕ) (xs : List Side) → fits tops xs ≡ true → AllByRecursion (λ p. inside p (corner p) ≡ true) (pieces ts xs)
 unfolding pieces
 corners [] tops xs h = (corner_inside xs tops h, tt)
 corners (t ∷ ts) tops xs h =
@@ -118,7 +118,7 @@ corners (t ∷ ts) tops xs h =
 abbrev One : List ℕ → WeightedBox → Type 0
 One q p = (s : List ℕ) → inside p.sides s ≡ true → answers q s ≡ answers q (corner p.sides)
 
-pub one_answer : (tops q : List ℕ) (bs : List WeightedBox) → length tops ≡ 4 → is_stepped q ≡ true → fit_all tops bs ≡ true → All (One q) (cut_all (steps_of q) bs)
+pub one_answer : (tops q : List ℕ) (bs : List WeightedBox) → length tops ≡ 4 → is_stepped q ≡ true → fit_all tops bs ≡ true → AllByRecursion (One q) (cut_all (steps_of q) bs)
 unfolding cut_all cut
 one_answer tops q [] l d h = tt
 one_answer tops q (b ∷ bs) l d h =

@@ -1,7 +1,7 @@
 -- Boxes that are apart hold no sheet in common, and their pieces stay apart and within the tops.
-use Rattle.std.proofs.Common.{◌≡◌, ℕ, ◌+◌, ◌≤◌, max, Bool, true, false, cond, ◌&&◌, ◌||◌, ltb, leb, List, [], ◌∷◌, ◌++◌, map, length, filter, refl, ap, ◌∙◌, arith, le-leb}
+use Rattle.std.proofs.Common.{◌≡◌, ℕ, ◌+◌, ◌≤◌, max, Bool, true, false, cond, ◌&&◌, ◌||◌, ltb, nat_le, List, [], ◌∷◌, ◌++◌, map, length, filter, refl, ap, ◌∙◌, arith, le-leb}
 use Rattle.std.proofs.lemmas.Bool.{and_from, or_parts}
-use Rattle.std.specs.List.{AllByRecursion as All}
+use Rattle.std.specs.List.{AllByRecursion}
 use Rattle.std.proofs.ByRecursion.{All-append, All-map}
 use Rattle.question.specs.declared.steps.Step.{Step}
 use Rattle.question.proofs.Questions.{and_left, and_right}
@@ -113,7 +113,7 @@ cover_disjoint (b ∷ bs) ts h c =
 fit_append : (ts : List ℕ) (xs ys : List WeightedBox) → fit_all ts xs ≡ true → fit_all ts ys ≡ true → fit_all ts (xs ++ ys) ≡ true
 unfolding fit_all
 fit_append ts [] ys h k = k
-fit_append ts (x ∷ xs) ys h k = and_from _ _ (and_left (fits ts x.sides && leb 1 x.weight) _ h) (fit_append ts xs ys (and_right (fits ts x.sides && leb 1 x.weight) _ h) k)
+fit_append ts (x ∷ xs) ys h k = and_from _ _ (and_left (fits ts x.sides && nat_le 1 x.weight) _ h) (fit_append ts xs ys (and_right (fits ts x.sides && nat_le 1 x.weight) _ h) k)
 
 fit_go : (ts : List ℕ) (w : ℕ) (t : Step) (qs : List Step) (xs : List Side) → fits ts xs ≡ true → ((ys : List Side) → fits ts ys ≡ true → fit_all ts (cut qs (part w ys)) ≡ true) →
     (b : Bool) → cuts xs t.field t.bound ≡ b → fit_all ts (cut (t ∷ qs) (part w xs)) ≡ true
@@ -131,12 +131,12 @@ cut_fits ts qs [] h = h
 cut_fits ts qs (b ∷ bs) h = let f = fit ts b bs h in fit_append ts (cut qs b) (cut_all qs bs) (fit_cut ts b.weight qs b.sides f.some f.here) (cut_fits ts qs bs f.rest)
 
 -- pieces weigh what their boxes do
-pub cut_light : (n : ℕ) (qs : List Step) (bs : List WeightedBox) → All (λ b. b.weight ≤ n) bs → All (λ p. p.weight ≤ n) (cut_all qs bs)
+pub cut_light : (n : ℕ) (qs : List Step) (bs : List WeightedBox) → AllByRecursion (λ b. b.weight ≤ n) bs → AllByRecursion (λ p. p.weight ≤ n) (cut_all qs bs)
 unfolding cut_all cut
 cut_light n qs [] h = tt
 cut_light n qs (b ∷ bs) h = All-append (λ p. p.weight ≤ n) (cut qs b) (cut_all qs bs) (All-map (λ p. p.weight ≤ n) (part b.weight) (pieces qs b.sides) (same (pieces qs b.sides) h.0)) (cut_light n qs bs h.1)
   where
-    same : (ps : List (List Side)) → b.weight ≤ n → All (λ x. b.weight ≤ n) ps
+    same : (ps : List (List Side)) → b.weight ≤ n → AllByRecursion (λ x. b.weight ≤ n) ps
     same [] k = tt
     same (p ∷ ps) k = (k, same ps k)
 
@@ -162,10 +162,10 @@ cover_kept p (b ∷ bs) s = go (p b) (cover_kept p bs s)
 pub kept_fits : (ts : List ℕ) (p : WeightedBox → Bool) (bs : List WeightedBox) → fit_all ts bs ≡ true → fit_all ts (filter p bs) ≡ true
 unfolding fit_all
 kept_fits ts p [] h = refl
-kept_fits ts p (b ∷ bs) h = go (p b) (kept_fits ts p bs (and_right (fits ts b.sides && leb 1 b.weight) _ h))
+kept_fits ts p (b ∷ bs) h = go (p b) (kept_fits ts p bs (and_right (fits ts b.sides && nat_le 1 b.weight) _ h))
   where
     go : (c : Bool) → fit_all ts (filter p bs) ≡ true → fit_all ts (cond c (b ∷ filter p bs) (filter p bs)) ≡ true
-    go true e = and_from _ _ (and_left (fits ts b.sides && leb 1 b.weight) _ h) e
+    go true e = and_from _ _ (and_left (fits ts b.sides && nat_le 1 b.weight) _ h) e
     go false e = e
 
 pub kept_disjoint : (ts : List ℕ) (p : WeightedBox → Bool) (bs : List WeightedBox) → fit_all ts bs ≡ true → disjoint bs ≡ true → disjoint (filter p bs) ≡ true

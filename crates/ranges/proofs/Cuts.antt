@@ -1,5 +1,5 @@
 -- What a cut does to a box.
-use Rattle.std.proofs.Common.{◌≡◌, ℕ, zero, suc, ◌<◌, ◌≤◌, Bool, true, false, not, ◌&&◌, ltb, leb, List, [], ◌∷◌, length, get_or, refl, ap, ◌∙◌, arith, ltb-true, le-leb, leb-true}
+use Rattle.std.proofs.Common.{◌≡◌, ℕ, zero, suc, ◌<◌, ◌≤◌, Bool, true, false, not, ◌&&◌, ltb, nat_le, List, [], ◌∷◌, length, get_or, refl, ap, ◌∙◌, arith, ltb-true, le-leb, leb-true}
 use Rattle.std.proofs.lemmas.Bool.{and_from}
 use Rattle.question.proofs.Questions.{and_left, and_right}
 use Rattle.ranges.specs.declared.shapes.Side.{Side}
@@ -43,7 +43,7 @@ length_part g (x ∷ xs) zero = refl
 length_part g (x ∷ xs) (suc k) = ap suc (length_part g xs k)
 
 -- both parts fit
-fits_make : (x : Side) (t : ℕ) (b : Bool) → x.low ≤ x.high → x.high ≤ t → b ≡ true → (leb x.low x.high && (leb x.high t && b)) ≡ true
+fits_make : (x : Side) (t : ℕ) (b : Bool) → x.low ≤ x.high → x.high ≤ t → b ≡ true → (nat_le x.low x.high && (nat_le x.high t && b)) ≡ true
 fits_make x t b l h e = and_from _ _ (le-leb _ _ l) (and_from _ _ (le-leb _ _ h) e)
 
 -- a part of a side is not empty, and does not pass it

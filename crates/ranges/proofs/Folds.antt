@@ -1,5 +1,5 @@
 -- Folds over all sheets, and over the sheets of boxes.
-use Rattle.std.proofs.Common.{◌≡◌, ℕ, zero, suc, ◌+◌, ◌-◌, ◌*◌, ◌<◌, ◌≤◌, min, max, Bool, true, false, cond, ◌&&◌, leb, List, [], ◌∷◌, sym, refl, ap, ◌∙◌, mul_assoc, add-mul, one-mul, zero-mul, add-one, arith, leb-true}
+use Rattle.std.proofs.Common.{◌≡◌, ℕ, zero, suc, ◌+◌, ◌-◌, ◌*◌, ◌<◌, ◌≤◌, min, max, Bool, true, false, cond, ◌&&◌, nat_le, List, [], ◌∷◌, sym, refl, ap, ◌∙◌, mul_assoc, add-mul, one-mul, zero-mul, add-one, arith, leb-true}
 use Rattle.question.proofs.Questions.{and_left, and_right, impossible}
 use Rattle.belief.specs.Sheets.{up_to, over_sheets, plus}
 use Rattle.belief.proofs.Sums.{up_to_cong}
@@ -32,8 +32,8 @@ pub record Fitting (ts : List ℕ) (t : ℕ) (x : Side) (xs : List Side) : Type 
 pub fitting : (ts : List ℕ) (t : ℕ) (x : Side) (xs : List Side) → fits (t ∷ ts) (x ∷ xs) ≡ true → Fitting ts t x xs
 unfolding fits
 fitting ts t x xs h =
-    let r = and_right (leb x.low x.high) _ h in
-    record { order = leb-true _ _ (and_left (leb x.low x.high) _ h); under = leb-true _ _ (and_left (leb x.high t) _ r); rest = and_right (leb x.high t) _ r }
+    let r = and_right (nat_le x.low x.high) _ h in
+    record { order = leb-true _ _ (and_left (nat_le x.low x.high) _ h); under = leb-true _ _ (and_left (nat_le x.high t) _ r); rest = and_right (nat_le x.high t) _ r }
 
 pub record Fit (ts : List ℕ) (b : WeightedBox) (bs : List WeightedBox) : Type 0 where
   pub here : fits ts b.sides ≡ true
@@ -43,8 +43,8 @@ pub record Fit (ts : List ℕ) (b : WeightedBox) (bs : List WeightedBox) : Type 
 pub fit : (ts : List ℕ) (b : WeightedBox) (bs : List WeightedBox) → fit_all ts (b ∷ bs) ≡ true → Fit ts b bs
 unfolding fit_all
 fit ts b bs h =
-    let l = and_left (fits ts b.sides && leb 1 b.weight) _ h in
-    record { here = and_left (fits ts b.sides) _ l; some = leb-true _ _ (and_right (fits ts b.sides) _ l); rest = and_right (fits ts b.sides && leb 1 b.weight) _ h }
+    let l = and_left (fits ts b.sides && nat_le 1 b.weight) _ h in
+    record { here = and_left (fits ts b.sides) _ l; some = leb-true _ _ (and_right (fits ts b.sides) _ l); rest = and_right (fits ts b.sides && nat_le 1 b.weight) _ h }
 
 -- ---- one side
 
@@ -61,8 +61,8 @@ boxed op (x ∷ xs) c = copies op (width x) (boxed op xs c)
 one_more : (x : Side) (n : ℕ) → within x (suc n) ≡ true → x.low ≤ x.high → min (suc n) x.high + 1 - x.low ≡ suc (min n x.high + 1 - x.low)
 unfolding within
 one_more x n e h =
-    let l = leb-true _ _ (and_left (leb x.low (suc n)) _ e) in
-    let r = leb-true _ _ (and_right (leb x.low (suc n)) _ e) in omega arith
+    let l = leb-true _ _ (and_left (nat_le x.low (suc n)) _ e) in
+    let r = leb-true _ _ (and_right (nat_le x.low (suc n)) _ e) in omega arith
 
 no_more : (x : Side) (n : ℕ) → within x (suc n) ≡ false → x.low ≤ x.high → min (suc n) x.high + 1 - x.low ≡ min n x.high + 1 - x.low
 unfolding within

@@ -1,6 +1,6 @@
 -- What a sheet gets from boxes is what it gets from their pieces.
-use Rattle.std.proofs.Common.{◌≡◌, ℕ, suc, ◌+◌, ◌<◌, Bool, true, false, cond, not, ◌&&◌, ltb, leb, List, [], ◌∷◌, ◌++◌, map, length, get_or, sym, refl, ap, ◌∙◌, arith}
-use Rattle.std.specs.List.{AllByRecursion as All}
+use Rattle.std.proofs.Common.{◌≡◌, ℕ, suc, ◌+◌, ◌<◌, Bool, true, false, cond, not, ◌&&◌, ltb, nat_le, List, [], ◌∷◌, ◌++◌, map, length, get_or, sym, refl, ap, ◌∙◌, arith}
+use Rattle.std.specs.List.{AllByRecursion}
 use Rattle.std.proofs.lemmas.Bool.{not-true}
 use Rattle.std.proofs.lemmas.List.{map-append}
 use Rattle.question.specs.declared.steps.Step.{Step}
@@ -16,14 +16,14 @@ use Rattle.ranges.proofs.Cuts.{in_lower, in_upper, length_part, fits_lower, fits
 
 -- the fields of some steps lie below n
 abbrev pub Fielded : ℕ → List Step → Type 0
-Fielded n ts = All (λ t. t.field < n) ts
+Fielded n ts = AllByRecursion (λ t. t.field < n) ts
 
 pub fits_length : (xs : List Side) (ts : List ℕ) → fits ts xs ≡ true → length xs ≡ length ts
 unfolding fits
 fits_length [] [] h = refl
 fits_length [] (t ∷ ts) h = never h
 fits_length (x ∷ xs) [] h = never h
-fits_length (x ∷ xs) (t ∷ ts) h = ap suc (fits_length xs ts (and_right (leb x.high t) _ (and_right (leb x.low x.high) _ h)))
+fits_length (x ∷ xs) (t ∷ ts) h = ap suc (fits_length xs ts (and_right (nat_le x.high t) _ (and_right (nat_le x.low x.high) _ h)))
 
 -- within a box, f depends on these steps alone
 abbrev pub Rests : {A : Type 0} → List Step → (List ℕ → A) → List Side → Type 0

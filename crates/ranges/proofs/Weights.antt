@@ -1,6 +1,6 @@
 -- Total, peak and wholeness by boxes are what they are by sheets.
-use Rattle.std.proofs.Common.{◌≡◌, ℕ, zero, suc, ◌+◌, ◌-◌, ◌*◌, ◌≤◌, max, Bool, true, false, cond, ◌&&◌, eqb, leb, List, [], ◌∷◌, sym, refl, ap, ◌∙◌, add-mul, mul-le-mul, one-mul, mul-one, arith}
-use Rattle.std.specs.List.{AllByRecursion as All}
+use Rattle.std.proofs.Common.{◌≡◌, ℕ, zero, suc, ◌+◌, ◌-◌, ◌*◌, ◌≤◌, max, Bool, true, false, cond, ◌&&◌, eqb, nat_le, List, [], ◌∷◌, sym, refl, ap, ◌∙◌, add-mul, mul-le-mul, one-mul, mul-one, arith}
+use Rattle.std.specs.List.{AllByRecursion}
 use Rattle.std.proofs.lemmas.Bool.Decides.{nat_tests}
 use Rattle.question.proofs.Questions.{and_left, and_right}
 use Rattle.belief.specs.Sheets.{up_to, sum_of, max_of, all_of, plus, both}
@@ -40,7 +40,7 @@ weight_total ts (b ∷ bs) s h =
     let r = weight_total ts bs s f.rest in omega arith
 
 -- no box weighs more than all together
-pub light : (ts : List ℕ) (bs : List WeightedBox) (n : ℕ) → fit_all ts bs ≡ true → total_in bs ≤ n → All (λ b. b.weight ≤ n) bs
+pub light : (ts : List ℕ) (bs : List WeightedBox) (n : ℕ) → fit_all ts bs ≡ true → total_in bs ≤ n → AllByRecursion (λ b. b.weight ≤ n) bs
 unfolding total_in over_boxes
 light ts [] n h l = tt
 light ts (b ∷ bs) n h l =
@@ -108,11 +108,11 @@ cover_weight ts (b ∷ bs) s h = let f = fit ts b bs h in go (inside b.sides s) 
     go true k r = let a = r.0 in (omega arith, λ e. absurd (omega arith))
     go false k r = let a = r.0 in (omega arith, λ e. let z = r.1 (omega arith) in omega arith)
 
-one_test : (c w : ℕ) → c ≤ 1 → c ≤ w → (c ≡ 0 → w ≡ 0) → (b : Bool) → eqb c 1 ≡ b → eqb c 1 ≡ leb 1 w
+one_test : (c w : ℕ) → c ≤ 1 → c ≤ w → (c ≡ 0 → w ≡ 0) → (b : Bool) → eqb c 1 ≡ b → eqb c 1 ≡ nat_le 1 w
 one_test c w h k z true e = grind (arith, nat_tests)
 one_test c w h k z false e = let o : c ≡ 0 = grind (arith, nat_tests) in let v = z o in grind (arith, nat_tests)
 
-pub whole_is : (ts : List ℕ) (bs : List WeightedBox) → fit_all ts bs ≡ true → disjoint bs ≡ true → all_of ts (λ s. leb 1 (weight_at bs s)) ≡ eqb (volume_in bs) (volume (entire ts))
+pub whole_is : (ts : List ℕ) (bs : List WeightedBox) → fit_all ts bs ≡ true → disjoint bs ≡ true → all_of ts (λ s. nat_le 1 (weight_at bs s)) ≡ eqb (volume_in bs) (volume (entire ts))
 whole_is ts bs h d =
     over_cong both ts _ _ (λ s. let c = cover_weight ts bs s h in sym (one_test (cover_at bs s) (weight_at bs s) (disjoint_cover bs d s) c.0 c.1 (eqb (cover_at bs s) 1) refl))
     ∙ sym (over_equal ts (cover_at bs) (λ s. 1) (disjoint_cover bs d))

@@ -23,7 +23,7 @@ pub record Sought {E : Type 0} (key : E → ℕ) (c : ℕ) (xs : List E) (got : 
 
 -- the same in a register, where code 0 means that a place is free and is never found
 pub record Looked {E : Type 0} (key : E → ℕ) (c : ℕ) (xs : List E) (got : Option ℕ) : Type 0 where
-  pub other : (c ≢ 0) → Sought key c xs got
+  pub other : c ≢ 0 → Sought key c xs got
   pub nought : c ≡ 0 → got ≡ None
 
 -- ---- the same to be computed
@@ -45,7 +45,7 @@ vacant key xs = first key 0 xs
 
 -- no code other than 0 has two places
 pub record Distinct {E : Type 0} (key : E → ℕ) (xs : List E) : Type 0 where
-  pub once : (i j : ℕ) (d : E) → i < length xs → j < length xs → key (slice_index_or xs i d) ≡ key (slice_index_or xs j d) → (key (slice_index_or xs i d) ≢ 0) → i ≡ j
+  pub once : (i j : ℕ) (d : E) → i < length xs → j < length xs → key (slice_index_or xs i d) ≡ key (slice_index_or xs j d) → key (slice_index_or xs i d) ≢ 0 → i ≡ j
 
 -- so it is where every place is free, and so it stays where an entry is put whose code has no place, wherever it is put
 pub record Once {E : Type 0} (key : E → ℕ) : Type 0 where

@@ -1,5 +1,5 @@
 -- Places and sheets of four fields, as the code computes them.
-use Rattle.std.proofs.Common.{◌≡◌, ℕ, ◌+◌, ◌*◌, ◌<◌, ◌≤◌, min, Bool, true, false, ◌&&◌, leb, List, [], ◌∷◌, length, get_or, sym, refl, ap, ◌∙◌, inl, inr, add-zero, mul-le-mul_right, add-mul, one-mul, mul-one, arith, le-leb}
+use Rattle.std.proofs.Common.{◌≡◌, ℕ, ◌+◌, ◌*◌, ◌<◌, ◌≤◌, min, Bool, true, false, ◌&&◌, nat_le, List, [], ◌∷◌, length, get_or, sym, refl, ap, ◌∙◌, inl, inr, add-zero, mul-le-mul_right, add-mul, one-mul, mul-one, arith, le-leb}
 use Rattle.std.proofs.lemmas.Bool.{cases_lt}
 use Rattle.belief.proofs.Fours.{four_of, fours}
 use Rattle.table.specs.Places.{size_of, place_of, fits_in}
@@ -16,10 +16,10 @@ and_true true = refl
 and_true false = refl
 
 pub fits_four : (xs ys : List ℕ) → length xs ≡ 4 → length ys ≡ 4 →
-    (leb (get_or ys 0 0) (get_or xs 0 0) && (leb (get_or ys 1 0) (get_or xs 1 0) && (leb (get_or ys 2 0) (get_or xs 2 0) && leb (get_or ys 3 0) (get_or xs 3 0)))) ≡ fits_in xs ys
+    (nat_le (get_or ys 0 0) (get_or xs 0 0) && (nat_le (get_or ys 1 0) (get_or xs 1 0) && (nat_le (get_or ys 2 0) (get_or xs 2 0) && nat_le (get_or ys 3 0) (get_or xs 3 0)))) ≡ fits_in xs ys
 unfolding fits_in
 fits_four xs ys h k =
-    ap (λ z. leb (get_or ys 0 0) (get_or xs 0 0) && (leb (get_or ys 1 0) (get_or xs 1 0) && (leb (get_or ys 2 0) (get_or xs 2 0) && z))) (sym (and_true (leb (get_or ys 3 0) (get_or xs 3 0))))
+    ap (λ z. nat_le (get_or ys 0 0) (get_or xs 0 0) && (nat_le (get_or ys 1 0) (get_or xs 1 0) && (nat_le (get_or ys 2 0) (get_or xs 2 0) && z))) (sym (and_true (nat_le (get_or ys 3 0) (get_or xs 3 0))))
     ∙ ap (λ z. fits_in z (four_of ys)) (sym (fours xs h)) ∙ ap (fits_in xs) (sym (fours ys k))
 
 -- how many sheets there are for each value of a field

@@ -1,5 +1,5 @@
 -- What the loops over the weights of a table gather.
-use Rattle.std.proofs.Common.{◌≡◌, ℕ, zero, suc, ◌+◌, ◌<◌, ◌≤◌, min, max, Bool, true, cond, ◌&&◌, eqb, leb, ◌≢◌, List, ◌++◌, length, get_or, take, set, refl, ap, ◌∙◌, subst, arith, length-take, get_or-set_other, get_or-take}
+use Rattle.std.proofs.Common.{◌≡◌, ℕ, zero, suc, ◌+◌, ◌<◌, ◌≤◌, min, max, Bool, true, cond, ◌&&◌, eqb, nat_le, ◌≢◌, List, ◌++◌, length, get_or, take, set, refl, ap, ◌∙◌, subst, arith, length-take, get_or-set_other, get_or-take}
 use Rattle.std.proofs.lemmas.List.Edits.{fill_by_more}
 use Rattle.std.proofs.lemmas.List.{take_at}
 use Rattle.question.specs.Questions.{all_below, answers}
@@ -62,9 +62,9 @@ module _ (t : Table) (s : Shaped t) (us : List ℕ) (n : ℕ) (w : Walked t us n
   unfolding peak_of
   peak_walked x e = gathered max 0 max_folds t.tops _ _ n x e ends held_at
 
-  pub whole_walked : (x : Bool) → x ≡ all_below n (λ i. leb 1 (get_or us i 0)) → x ≡ whole_of (meaning t)
+  pub whole_walked : (x : Bool) → x ≡ all_below n (λ i. nat_le 1 (get_or us i 0)) → x ≡ whole_of (meaning t)
   unfolding whole_of
-  whole_walked x e = gathered both true both_folds t.tops _ _ n x (e ∙ all_folds n _) ends (λ i h. ap (leb 1) (held_at i h))
+  whole_walked x e = gathered both true both_folds t.tops _ _ n x (e ∙ all_folds n _) ends (λ i h. ap (nat_le 1) (held_at i h))
 
   module _ (q : List ℕ) (a : ℕ) where
     share_held : (i : ℕ) → i < size_of t.tops → share_at q a t.tops us i ≡ kept q a (meaning t).weight (sheet_at t.tops i)

@@ -1,7 +1,7 @@
 pub mod Places
 pub mod Tables
 pub mod Walks
-pub mod TablesLemmas
+pub mod Soundness
 pub mod Folds
 pub mod Order
 pub mod Weights

@@ -1,7 +1,7 @@
 // A table as a belief.
 ghost use Rattle.std.specs.Prelude.{◌≡◌, nat_le};
 ghost use Rattle.table.specs.Tables.{good_total, meaning};
-ghost use Rattle.table.specs.TablesLemmas.{table_laws};
+ghost use Rattle.table.specs.Soundness.{table_laws};
 
 use crate::held::{PLACES, Table};
 use crate::places::{fits_in, place_of, span_only};

@@ -17,7 +17,7 @@ impl Belief for Boxes {
 
     ghost means = { meaning };
 
-    ghost laws = { λ b e. Meanings.laws b.first b.count b.tops (Holding.held b) b.four (parts b e) };
+    ghost laws = { λ b e. Meanings.boxes_laws b.first b.count b.tops (Holding.held b) b.four (parts b e) };
 
     fn kind_letter() -> u8 {
         Self::LETTER

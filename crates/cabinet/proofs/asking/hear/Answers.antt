@@ -1,6 +1,4 @@
-use Rattle.std.proofs.Common.{◌≡◌, sym, refl, ap, ◌∙◌}
-use Rattle.refusal.specs.Replies.{reply}
-use Rattle.belief.specs.Meaning.{revised}
+use Rattle.std.proofs.Common.{refl, ap, ◌∙◌}
 use Rattle.cabinet.specs.Calls.{hearing}
 use Rattle.cabinet.specs.Memory.{filed}
 use Rattle.cabinet.proofs.Heard.{heard, others, revision}

@@ -1,4 +1,4 @@
-use Rattle.std.proofs.Common.{◌≡◌, [], sym, ap, ◌∙◌, rules}
+use Rattle.std.proofs.Common.{[], ap, rules}
 use Rattle.cabinet.specs.Sessions.{outcome, events}
 use Rattle.cabinet.proofs.Turning.{session_served}
 use Rattle.cabinet.proofs.sessions.session.Goals as goal

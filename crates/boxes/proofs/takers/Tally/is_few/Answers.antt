@@ -1,5 +1,5 @@
 -- The answers, one by one.
-use Rattle.std.proofs.Common.{leb, get_or, ap, ◌∙◌, arith}
+use Rattle.std.proofs.Common.{nat_le, get_or, ap, ◌∙◌, arith}
 use Rattle.question.specs.Questions.{all_below}
 use Rattle.boxes.specs.Holding.{most_boxes}
 use Rattle.boxes.proofs.Loops.{below_none, below_next}
@@ -12,4 +12,4 @@ pub loop-a-preserved : goal.loop-a-preserved
 loop-a-preserved c = below_next _ _ _ _ c.loop-a.invariant c.may_keep-all.ensures
 
 pub returns : goal.returns
-returns c = c.loop-a.invariant ∙ ap (λ n. all_below n (λ a. leb (get_or c.args.self.now.pieces a 0) most_boxes)) (omega arith)
+returns c = c.loop-a.invariant ∙ ap (λ n. all_below n (λ a. nat_le (get_or c.args.self.now.pieces a 0) most_boxes)) (omega arith)

@@ -1,5 +1,4 @@
 use Rattle.refusal.specs.Replies.{reply}
-use Rattle.cabinet.specs.Memory.{state}
 use Rattle.cabinet.proofs.Standing.{asks_on}
 use Rattle.cabinet.proofs.cabinets.Cabinet.ask.Goals as goal
 

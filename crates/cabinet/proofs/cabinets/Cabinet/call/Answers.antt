@@ -1,4 +1,4 @@
-use Rattle.std.proofs.Common.{◌≡◌, sym, subst}
+use Rattle.std.proofs.Common.{sym, subst}
 use Rattle.refusal.specs.Replies.{reply}
 use Rattle.cabinet.specs.Memory.{filed, state, understood}
 use Rattle.cabinet.specs.Sessions.{event, Turns}

@@ -1,5 +1,5 @@
 use Rattle.refusal.specs.Replies.{reply}
-use Rattle.cabinet.specs.Memory.{filed, state}
+use Rattle.cabinet.specs.Memory.{filed}
 use Rattle.cabinet.proofs.Standing.{enrols_on}
 use Rattle.cabinet.proofs.cabinets.Cabinet.enrol.Goals as goal
 

@@ -1,4 +1,4 @@
-use Rattle.std.proofs.Common.{sym, ◌∙◌}
+use Rattle.std.proofs.Common.{sym}
 use Rattle.cabinet.proofs.Places.{known_none, known_unfit, known_found}
 use Rattle.cabinet.proofs.cabinets.Cabinet.known.Goals as goal
 

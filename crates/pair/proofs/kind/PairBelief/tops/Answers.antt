@@ -1,7 +1,7 @@
 -- A field has its top on one side, and 0 on the other.
 use Rattle.std.proofs.Common.{get_or, refl, ap, rules}
 use Rattle.pair.specs.Folds.{parts}
-use Rattle.pair.specs.Laws.{tops_fit, four_tops}
+use Rattle.pair.specs.Soundness.{tops_fit, four_tops}
 use Rattle.pair.proofs.kind.PairBelief.tops.Goals as goal
 
 pub returns : goal.returns

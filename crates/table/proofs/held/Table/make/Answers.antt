@@ -1,7 +1,7 @@
 -- Where every test is passed, the copy is the table of the list.
 use Rattle.std.proofs.Common.{sym, ◌∙◌, subst, rules}
 use Rattle.table.specs.Tables.{Filled}
-use Rattle.table.specs.TablesLemmas.{Good, made_is, made_filled, table_copied}
+use Rattle.table.specs.Soundness.{Good, made_is, made_filled, table_copied}
 use Rattle.table.proofs.held.Table.make.Goals as goal
 
 pub returns : goal.returns

@@ -2,7 +2,7 @@
 use Rattle.std.proofs.Common.{max, refl, ◌∙◌}
 use Rattle.table.specs.Folds.{fold_none, fold_more}
 use Rattle.table.proofs.Loops.{peak_walked}
-use Rattle.table.specs.TablesLemmas.{shaped_is}
+use Rattle.table.specs.Soundness.{shaped_is}
 use Rattle.table.proofs.kind.TableBelief.peak.Goals as goal
 
 pub loop-w-init : goal.loop-w-init

@@ -5,7 +5,7 @@ use Rattle.belief.specs.Meaning.{mass_of}
 use Rattle.belief.proofs.Replies.{replied_carried, replied_value, revising_ok}
 use Rattle.table.specs.Tables.{meaning}
 use Rattle.table.specs.Walks.{Kept}
-use Rattle.table.specs.TablesLemmas.{shaped_is, kept_revised}
+use Rattle.table.specs.Soundness.{shaped_is, kept_revised}
 use Rattle.table.proofs.kind.TableBelief.revise.Goals as goal
 
 pub returns : goal.returns

@@ -1,6 +1,6 @@
 -- What does not fit weighs 0; what fits has a place.
 use Rattle.std.proofs.Common.{◌<◌, arith}
-use Rattle.table.specs.TablesLemmas.{weigh_not, weigh_is, place_room}
+use Rattle.table.specs.Soundness.{weigh_not, weigh_is, place_room}
 use Rattle.table.proofs.kind.TableBelief.weight.Goals as goal
 
 pub returns-then-not-fits_in : goal.returns-then-not-fits_in

@@ -3,7 +3,7 @@ use Rattle.std.proofs.Common.{length, sym, refl, ◌∙◌, arith}
 use Rattle.question.specs.Questions.{all_below}
 use Rattle.question.proofs.Questions.{all_more, all_fails}
 use Rattle.table.proofs.Loops.{whole_walked}
-use Rattle.table.specs.TablesLemmas.{shaped_is}
+use Rattle.table.specs.Soundness.{shaped_is}
 use Rattle.table.proofs.kind.TableBelief.whole.Goals as goal
 
 pub loop-w-init : goal.loop-w-init

@@ -1,5 +1,5 @@
 -- A sound table keeps the laws, and revising it revises its meaning.
-use Rattle.std.specs.Prelude.{◌≡◌, ℕ, zero, suc, ◌*◌, ◌^◌, ◌<◌, ◌≤◌, Bool, true, false, cond, ◌&&◌, leb, List, length, take, ◌==◌, nat_le, slice_index}
+use Rattle.std.specs.Prelude.{◌≡◌, ℕ, zero, suc, ◌*◌, ◌^◌, ◌<◌, ◌≤◌, Bool, true, false, cond, ◌&&◌, nat_le, List, length, take, ◌==◌, slice_index}
 use Rattle.std.proofs.Math.Path.{refl, sym, ap}
 use Rattle.std.proofs.Common.{◌∙◌, arith, get_or-take, leb-true, le-leb, eqb-true}
 use Rattle.refusal.specs.Replies.{given}
@@ -144,7 +144,7 @@ pub record Good (f c : ℕ) (tops list : List ℕ) : Type 0 where
   pub four : length tops ≡ 4
 
 module _ (f c : ℕ) (tops list : List ℕ) (g : Good f c tops list) where
-  small : leb (size_of tops) 1024 ≡ true
+  small : nat_le (size_of tops) 1024 ≡ true
   small = and_left (nat_le (size_of tops) 1024) (length list == size_of tops && good_weights list) g.weights
 
   rest : (length list == size_of tops && good_weights list) ≡ true

@@ -15,11 +15,11 @@ length_joined [] ys e = sym e
 length_joined (x ∷ xs) [] e = refl
 length_joined (x ∷ xs) (y ∷ ys) e = ap suc (length_joined xs ys (omega arith))
 
-get_d_joined : (xs ys : List ℕ) (k : ℕ) → slice_index (joined xs ys) k ≡ slice_index xs k + slice_index ys k
-get_d_joined [] ys k = sym (zero-add _)
-get_d_joined (x ∷ xs) [] k = sym (add-zero _)
-get_d_joined (x ∷ xs) (y ∷ ys) zero = refl
-get_d_joined (x ∷ xs) (y ∷ ys) (suc k) = get_d_joined xs ys k
+slice_index_joined : (xs ys : List ℕ) (k : ℕ) → slice_index (joined xs ys) k ≡ slice_index xs k + slice_index ys k
+slice_index_joined [] ys k = sym (zero-add _)
+slice_index_joined (x ∷ xs) [] k = sym (add-zero _)
+slice_index_joined (x ∷ xs) (y ∷ ys) zero = refl
+slice_index_joined (x ∷ xs) (y ∷ ys) (suc k) = slice_index_joined xs ys k
 
 wider_left : (f c d k : ℕ) → in_span f c k ≡ true → in_span f (c + d) k ≡ true
 unfolding in_span
@@ -67,16 +67,16 @@ module _ (l r : Meaning) (p : Parts l r) where
   pair_above : (s : List ℕ) (k : ℕ) (x : Bool) → in_span l.first l.count k ≡ x → in_span l.first (l.count + r.count) k ≡ true →
       slice_index (joined l.tops r.tops) k < slice_index s k → l.weight s * r.weight s ≡ 0
   pair_above s k true ex e h =
-      let t = get_d_joined l.tops r.tops k in
+      let t = slice_index_joined l.tops r.tops k in
       let z = p.lawful_left.above s k ex (omega arith) in ap (λ w. w * r.weight s) z ∙ zero-mul _
   pair_above s k false ex e h =
-      let t = get_d_joined l.tops r.tops k in
+      let t = slice_index_joined l.tops r.tops k in
       let z = p.lawful_right.above s k (other_side l.first l.count r.first r.count k p.meets e ex) (omega arith) in ap (λ w. l.weight s * w) z ∙ mul-zero _
 
   -- no two tops of one field add up to more than a byte
   pub tops_fit : (k x y z : ℕ) → x ≡ slice_index l.tops k → y ≡ slice_index r.tops k → x < 256 → y < 256 → z ≡ min (x + y) 255 → (t : Bool) → in_span l.first l.count k ≡ t → z ≡ slice_index (joined l.tops r.tops) k
-  tops_fit k x y z ex ey hx hy ez true is = let t = get_d_joined l.tops r.tops k in let o = p.lawful_right.outside k (apart l.first l.count r.first r.count k p.meets is) in omega arith
-  tops_fit k x y z ex ey hx hy ez false is = let t = get_d_joined l.tops r.tops k in let o = p.lawful_left.outside k is in omega arith
+  tops_fit k x y z ex ey hx hy ez true is = let t = slice_index_joined l.tops r.tops k in let o = p.lawful_right.outside k (apart l.first l.count r.first r.count k p.meets is) in omega arith
+  tops_fit k x y z ex ey hx hy ez false is = let t = slice_index_joined l.tops r.tops k in let o = p.lawful_left.outside k is in omega arith
 
   pub four_tops : (x y z w : ℕ) → x ≡ slice_index (joined l.tops r.tops) 0 → y ≡ slice_index (joined l.tops r.tops) 1 →
       z ≡ slice_index (joined l.tops r.tops) 2 → w ≡ slice_index (joined l.tops r.tops) 3 → x ∷ y ∷ z ∷ w ∷ [] ≡ joined l.tops r.tops
@@ -96,7 +96,7 @@ pair_laws l r p =
       fits = omega (arith, b.fits, p.meets);
       four = length_joined l.tops r.tops (a.four ∙ sym b.four) ∙ a.four;
       outside = λ k h.
-          get_d_joined l.tops r.tops k
+          slice_index_joined l.tops r.tops k
           ∙ ap (λ z. z + slice_index r.tops k) (a.outside k (out_left l.first l.count r.count k h))
           ∙ ap (λ z. 0 + z) (b.outside k (out_right l.first l.count r.first r.count k p.meets h));
       local = λ s t h.
