@@ -1,4 +1,5 @@
 pub mod Judged
+pub mod Left
 pub mod Places
 pub mod Heard
 pub mod Weighed

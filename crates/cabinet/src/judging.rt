@@ -1,5 +1,7 @@
 ghost use Rattle.std.specs.Prelude.{◌≡◌, ◌≤◌, true, ◌&&◌, nat_lt};
-ghost use Rattle.refusal.specs.Replies.{reply, and_then};
+ghost use Rattle.refusal.specs.Replies.{reply, given, and_then};
+ghost use Rattle.belief.specs.Meaning.{mass_of, heaviest_of};
+ghost use Rattle.belief.specs.Calls.{carrying};
 ghost use Rattle.question.specs.Expressions.{greatest};
 ghost use Rattle.question.specs.Reading.{reading};
 ghost use Rattle.cabinet.specs.Memory.{meant};
@@ -11,7 +13,8 @@ use belief::Belief;
 use question::GREATEST;
 use refusal::Refusal;
 
-// Whether a question may be answered with this answer, the sheet's own: it is carried, the answer is possible, and no answer to it is too telling.
+// Whether a question may be answered with this answer, the sheet's own: it is carried, the answer is possible, and no answer
+// to it is too telling. Once the answers looked at have all the weight, no further one is possible.
 pub(crate) fn judge<B: Belief>(
     folder: &Folder<B>,
     question: &[u8],
@@ -24,11 +27,13 @@ pub(crate) fn judge<B: Belief>(
     if !folder.belief.carries(question)? {
         return Err(Refusal::NotCarried);
     }
+    let mut left = folder.belief.total();
     let mut possible = false;
     let mut telling = false;
     for a in 0..=GREATEST {
-        let mass = folder.belief.mass(question, a)?;
-        let heaviest = folder.belief.heaviest(question, a)?;
+        let mass = mass_within(&folder.belief, question, a, left)?;
+        left -= mass;
+        let heaviest = heaviest_within(&folder.belief, question, a, mass)?;
         possible |= (a == answer) & (mass > 0);
         telling |= tells(folder.n, folder.d, heaviest, mass);
     }
@@ -39,6 +44,42 @@ pub(crate) fn judge<B: Belief>(
         return Err(Refusal::TooTelling);
     }
     Ok(answer)
+}
+
+// The mass of an answer to a question that is carried; nothing is looked at where no weight is left for it.
+fn mass_within<B: Belief>(
+    belief: &B,
+    question: &[u8],
+    answer: u8,
+    left: u64,
+) -> Result<u64, Refusal>
+    requires sound { (B.means belief.now).sound ≡ true }
+    requires carried { carrying (B.means belief.now) question.now ≡ given true }
+    requires rest { mass_of (B.means belief.now) question.now answer ≤ left }
+    ensures { reply result ≡ given (mass_of (B.means belief.now) question.now answer) }
+{
+    if left == 0 {
+        return Ok(0);
+    }
+    belief.mass(question, answer)
+}
+
+// The heaviest sheet of an answer of this mass; nothing is looked at where the mass is 0.
+fn heaviest_within<B: Belief>(
+    belief: &B,
+    question: &[u8],
+    answer: u8,
+    mass: u64,
+) -> Result<u64, Refusal>
+    requires sound { (B.means belief.now).sound ≡ true }
+    requires carried { carrying (B.means belief.now) question.now ≡ given true }
+    requires weighs { mass ≡ mass_of (B.means belief.now) question.now answer }
+    ensures { reply result ≡ given (heaviest_of (B.means belief.now) question.now answer) }
+{
+    if mass == 0 {
+        return Ok(0);
+    }
+    belief.heaviest(question, answer)
 }
 
 // Whether an answer of this mass is possible and leaves its heaviest sheet above the threshold n / d.
