@@ -31,9 +31,8 @@ pub(crate) fn judge<B: Belief>(
     let mut possible = false;
     let mut telling = false;
     for a in 0..=GREATEST {
-        let mass = mass_within(&folder.belief, question, a, left)?;
+        let (mass, heaviest) = weighed(&folder.belief, question, a, left)?;
         left -= mass;
-        let heaviest = heaviest_within(&folder.belief, question, a, mass)?;
         possible |= (a == answer) & (mass > 0);
         telling |= tells(folder.n, folder.d, heaviest, mass);
     }
@@ -46,40 +45,27 @@ pub(crate) fn judge<B: Belief>(
     Ok(answer)
 }
 
-// The mass of an answer to a question that is carried; nothing is looked at where no weight is left for it.
-fn mass_within<B: Belief>(
+// The mass of an answer to a question that is carried, and its heaviest sheet. Nothing is looked at where no weight is left
+// for it, and no heaviest sheet is sought where the mass is 0.
+fn weighed<B: Belief>(
     belief: &B,
     question: &[u8],
     answer: u8,
     left: u64,
-) -> Result<u64, Refusal>
+) -> Result<(u64, u64), Refusal>
     requires sound { (B.means belief.now).sound ≡ true }
     requires carried { carrying (B.means belief.now) question.now ≡ given true }
     requires rest { mass_of (B.means belief.now) question.now answer ≤ left }
-    ensures { reply result ≡ given (mass_of (B.means belief.now) question.now answer) }
+    ensures { reply result ≡ given (mass_of (B.means belief.now) question.now answer, heaviest_of (B.means belief.now) question.now answer) }
 {
     if left == 0 {
-        return Ok(0);
+        return Ok((0, 0));
     }
-    belief.mass(question, answer)
-}
-
-// The heaviest sheet of an answer of this mass; nothing is looked at where the mass is 0.
-fn heaviest_within<B: Belief>(
-    belief: &B,
-    question: &[u8],
-    answer: u8,
-    mass: u64,
-) -> Result<u64, Refusal>
-    requires sound { (B.means belief.now).sound ≡ true }
-    requires carried { carrying (B.means belief.now) question.now ≡ given true }
-    requires weighs { mass ≡ mass_of (B.means belief.now) question.now answer }
-    ensures { reply result ≡ given (heaviest_of (B.means belief.now) question.now answer) }
-{
+    let mass = belief.mass(question, answer)?;
     if mass == 0 {
-        return Ok(0);
+        return Ok((0, 0));
     }
-    belief.heaviest(question, answer)
+    Ok((mass, belief.heaviest(question, answer)?))
 }
 
 // Whether an answer of this mass is possible and leaves its heaviest sheet above the threshold n / d.

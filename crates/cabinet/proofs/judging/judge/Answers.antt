@@ -1,4 +1,4 @@
-use Rattle.std.proofs.Common.{ltb, ap, arith, rules}
+use Rattle.std.proofs.Common.{◌≡◌, ℕ, ltb, ap, arith, rules}
 use Rattle.std.proofs.lemmas.Bool.Decides.{nat_tests}
 use Rattle.belief.specs.Meaning.{mass_of, heaviest_of}
 use Rattle.history.specs.Judging.{is_telling_at, telling}
@@ -13,8 +13,8 @@ loop-a-init g c =
     let f = c.args.folder.now in
     (grind (arith, nat_tests), some_none (is_telling_at m q f.n f.d), omega (arith, c.total-left.ensures c.requires.sound, from_first m q))
 
-pub mass_within-requires-clause-rest : goal.mass_within-requires-clause-rest
-mass_within-requires-clause-rest g c =
+pub weighed-requires-clause-rest : goal.weighed-requires-clause-rest
+weighed-requires-clause-rest g c =
     let m = g.B.Belief.means c.args.folder.now.belief in
     omega (arith, c.loop-a.invariant.2, from_next m c.args.question.now c.loop-a.a)
 
@@ -22,8 +22,10 @@ pub overflow_sub-left : goal.overflow_sub-left
 overflow_sub-left g c =
     let m = g.B.Belief.means c.args.folder.now.belief in
     let q = c.args.question.now in
-    let mass = given_is _ (mass_of m q c.loop-a.a) c.in_ok-mass.ensures in
-    omega (arith, mass, c.loop-a.invariant.2, from_next m q c.loop-a.a)
+    let a = c.loop-a.a in
+    let e = given_is _ (mass_of m q a, heaviest_of m q a) c.in_ok-mass.ensures in
+    let mass : c.in_ok-mass.mass ≡ mass_of m q a = ap (λ (p : ℕ × ℕ). p.0) e in
+    omega (arith, mass, c.loop-a.invariant.2, from_next m q a)
 
 pub loop-a-preserved : goal.loop-a-preserved
 loop-a-preserved g c =
@@ -31,8 +33,9 @@ loop-a-preserved g c =
     let q = c.args.question.now in
     let a = c.loop-a.a in
     let f = c.args.folder.now in
-    let mass = given_is _ (mass_of m q a) c.in_ok-mass.ensures in
-    let most = given_is _ (heaviest_of m q a) c.in_ok-heaviest.ensures in (
+    let e = given_is _ (mass_of m q a, heaviest_of m q a) c.in_ok-mass.ensures in
+    let mass : c.in_ok-mass.mass ≡ mass_of m q a = ap (λ (p : ℕ × ℕ). p.0) e in
+    let most : c.in_ok-mass.heaviest ≡ heaviest_of m q a = ap (λ (p : ℕ × ℕ). p.1) e in (
       own_more (λ k. ltb 0 (mass_of m q k)) c.args.answer a _ _ c.loop-a.invariant.0 (ap (ltb 0) mass),
       some_more (is_telling_at m q f.n f.d) a _ _ c.loop-a.invariant.1 (telling_is m q f.n f.d a _ _ _ c.tells.ensures mass most),
       omega (arith, mass, c.loop-a.invariant.2, from_next m q a),
