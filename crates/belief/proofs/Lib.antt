@@ -3,4 +3,5 @@ pub mod Products
 pub mod Replies
 pub mod Revisings
 pub mod Fours
+pub mod Spanned
 pub mod Sheets

@@ -11,13 +11,9 @@ pub trait Belief: Copy {
     // The letter of the kind, as it stands in the audit.
     const LETTER: u8;
 
-    ghost letter: { ℕ };
+    ghost LETTER: { ℕ };
 
     ghost means: { Self → Meaning };
-
-    // The letter of the kind.
-    fn kind_letter() -> u8
-        ensures { result ≡ letter };
 
     // Whether the belief is sound.
     fn sound(&self) -> bool

@@ -29,12 +29,12 @@ impl Cabinet {
         d: u16,
         belief: B,
     ) -> Result<usize, Refusal>
-        ensures result { reply result ≡ enrolling (understood B.means (state self.old register.old.entries.now audit.old)) B.letter (filed code n d (B.means belief)) }
+        ensures result { reply result ≡ enrolling (understood B.means (state self.old register.old.entries.now audit.old)) B.LETTER (filed code n d (B.means belief)) }
         ensures memory { state self.new register.new.entries.now audit.new
-            ≡ after_enrolling (state self.old register.old.entries.now audit.old) B.letter (filed code n d belief) (reply result) }
+            ≡ after_enrolling (state self.old register.old.entries.now audit.old) B.LETTER (filed code n d belief) (reply result) }
         ensures lent { register.new.entries.ghost_name ≡ register.old.entries.ghost_name }
         ensures runs { GoesOn (understood B.means (state self.old register.old.entries.now audit.old))
-            (enrols (offering B.letter (filed code n d (B.means belief))) (reply result))
+            (enrols (offering B.LETTER (filed code n d (B.means belief))) (reply result))
             (understood B.means (state self.new register.new.entries.now audit.new)) }
     {
         self.admit(register, audit, code, n, d, belief)
@@ -50,9 +50,9 @@ impl Cabinet {
         d: u16,
         belief: B,
     ) -> Result<usize, Refusal>
-        ensures result { reply result ≡ enrolling (understood B.means (state self.old register.old.entries.now audit.old)) B.letter (filed code n d (B.means belief)) }
+        ensures result { reply result ≡ enrolling (understood B.means (state self.old register.old.entries.now audit.old)) B.LETTER (filed code n d (B.means belief)) }
         ensures memory { state self.new register.new.entries.now audit.new
-            ≡ after_enrolling (state self.old register.old.entries.now audit.old) B.letter (filed code n d belief) (reply result) }
+            ≡ after_enrolling (state self.old register.old.entries.now audit.old) B.LETTER (filed code n d belief) (reply result) }
         ensures lent { register.new.entries.ghost_name ≡ register.old.entries.ghost_name }
     {
         if !is_threshold(n, d) {
@@ -76,7 +76,7 @@ impl Cabinet {
         if above(n, d, belief.peak(), belief.total()) {
             return Err(Refusal::TooTelling);
         }
-        self.write(audit, &enrolment(code, n, d, B::kind_letter()));
+        self.write(audit, &enrolment(code, n, d, B::LETTER));
         fill(register, at, Folder { code, n, d, belief });
         Ok(at)
     }

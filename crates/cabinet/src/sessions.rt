@@ -27,7 +27,7 @@ pub fn session<B: Belief>(
     ensures result { outcome (reply result) ≡ outcome (making count tops sheet) }
     ensures served { MatchResult result
         (λ c. Served (record { count = count; tops = tops; places = length folders.old; room = length audit.old }) sheet audit.old
-        (events B.means B.letter calls.now returns.new [])
+        (events B.means B.LETTER calls.now returns.new [])
         (understood B.means (state (record { sheet = sheet; count = count; tops = tops; used = 0 }) (freed folders.old) audit.old))
         (understood B.means (state c folders.new audit.new)))
         (λ _. Unit {0}) }
@@ -59,11 +59,11 @@ impl Cabinet {
     )
         ensures stands { (w : Setting) (x before : List ℕ) (past : Past) →
             Stands w x before past (understood B.means (state self.old register.old.entries.now audit.old)) →
-            Stands w x before (events B.means B.letter calls.now returns.new past)
+            Stands w x before (events B.means B.LETTER calls.now returns.new past)
             (understood B.means (state self.new register.new.entries.now audit.new)) }
         ensures memory { understood B.means (state self.new register.new.entries.now audit.new)
             ≡ left (understood B.means (state self.old register.old.entries.now audit.old))
-            (events B.means B.letter calls.now returns.new []) }
+            (events B.means B.LETTER calls.now returns.new []) }
         ensures others { drop (length calls.now) returns.new ≡ drop (length calls.now) returns.old }
         ensures lent { register.new.entries.ghost_name ≡ register.old.entries.ghost_name }
     {
@@ -80,7 +80,7 @@ impl Cabinet {
         call: &Call<'_, B>,
     ) -> Return
         ensures turns { Turns (understood B.means (state self.old register.old.entries.now audit.old))
-            (event B.means B.letter call.now result)
+            (event B.means B.LETTER call.now result)
             (understood B.means (state self.new register.new.entries.now audit.new)) }
         ensures lent { register.new.entries.ghost_name ≡ register.old.entries.ghost_name }
     {

@@ -34,7 +34,7 @@ pub fn heaviest_of_three<A: Belief, B: Belief, C: Belief>(
 pub fn letter_of_three() -> u8
     ensures { result ≡ 80 }
 {
-    <Pair<Pair<Table, Table>, Table> as Belief>::kind_letter()
+    <Pair<Pair<Table, Table>, Table> as Belief>::LETTER
 }
 
 // Whether what memory is filled with is sound.

@@ -11,21 +11,14 @@ use belief::Belief;
 use question::Question;
 use refusal::Refusal;
 
-// The letter of the kind.
-const PAIR_LETTER: u8 = b'P';
-
 impl<L: Belief, R: Belief> Belief for Pair<L, R> {
-    const LETTER: u8 = PAIR_LETTER;
+    const LETTER: u8 = b'P';
 
-    ghost letter = { 80 };
+    ghost LETTER = { 80 };
 
     ghost means = { λ p. paired (L.Belief.means p.left) (R.Belief.means p.right) };
 
     ghost laws = { λ b e. pair_laws _ _ (parts (L.Belief.means b.left) (R.Belief.means b.right) (L.Belief.laws _) (R.Belief.laws _) e) };
-
-    fn kind_letter() -> u8 {
-        PAIR_LETTER
-    }
 
     fn sound(&self) -> bool {
         good_sides(&self.left, &self.right) && is_light(&self.left, &self.right)

@@ -13,6 +13,7 @@ mod walks;
 
 pub use checked::Question;
 pub use listed::Steps;
+pub use meanings::in_span;
 pub use steps::Step;
 
 // The greatest answer.

@@ -103,7 +103,7 @@ pub(crate) fn reads_span(bytes: &[u8], first: u8, count: u8) -> bool
 }
 
 // Whether field k lies in a span.
-fn in_span(first: u8, count: u8, k: u8) -> bool
+pub fn in_span(first: u8, count: u8, k: u8) -> bool
     ensures { result ≡ in_span first count k }
 {
     (first <= k) & ((k as u16) < first as u16 + count as u16)

@@ -16,15 +16,11 @@ const MOST: u64 = 1 << 40;
 impl Belief for Table {
     const LETTER: u8 = b'T';
 
-    ghost letter = { 84 };
+    ghost LETTER = { 84 };
 
     ghost means = { meaning };
 
     ghost laws = { λ b e. table_laws b.first b.count b.tops b.weights b.four e };
-
-    fn kind_letter() -> u8 {
-        Self::LETTER
-    }
 
     fn sound(&self) -> bool {
         self.is_shaped() && good_total(self.sum())

@@ -13,15 +13,11 @@ use refusal::Refusal;
 impl Belief for Boxes {
     const LETTER: u8 = b'B';
 
-    ghost letter = { 66 };
+    ghost LETTER = { 66 };
 
     ghost means = { meaning };
 
     ghost laws = { λ b e. Meanings.boxes_laws b.first b.count b.tops (Holding.held b) b.four (parts b e) };
-
-    fn kind_letter() -> u8 {
-        Self::LETTER
-    }
 
     fn sound(&self) -> bool {
         self.is_spanned() & self.is_boxed()

@@ -7,7 +7,7 @@ pub returns : goal.returns
 returns g c =
     let m = g.B.Belief.means in
     let made = c.in_ok-cabinet.ensures in
-    let h = events m g.B.Belief.letter c.args.calls.now c.run.new.returns [] in
+    let h = events m g.B.Belief.LETTER c.args.calls.now c.run.new.returns [] in
     record {
       result = ap outcome made.result;
       served = session_served m c.args.count c.args.tops c.args.sheet c.in_ok-cabinet.cabinet c.run.new.self

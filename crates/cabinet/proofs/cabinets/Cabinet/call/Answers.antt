@@ -11,7 +11,7 @@ pub returns-in-Enrol : goal.returns-in-Enrol
 returns-in-Enrol g c =
     let e = c.enrol.ensures in
     let m = g.B.Belief.means in
-    let k = g.B.Belief.letter in
+    let k = g.B.Belief.LETTER in
     let s = state c.args.self.now c.args.register.now.entries.now c.args.audit.now in
     let t = state c.enrol.new.self c.enrol.new.register.entries.now c.enrol.new.audit in
     record {

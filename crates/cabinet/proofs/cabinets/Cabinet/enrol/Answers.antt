@@ -10,5 +10,5 @@ returns g c =
       result = r.result;
       memory = r.memory;
       lent = r.lent;
-      runs = enrols_on g.B.Belief.means _ g.B.Belief.letter (filed c.args.code c.args.n c.args.d c.args.belief) (reply c.admit.result) _ r.result r.memory;
+      runs = enrols_on g.B.Belief.means _ g.B.Belief.LETTER (filed c.args.code c.args.n c.args.d c.args.belief) (reply c.admit.result) _ r.result r.memory;
     }

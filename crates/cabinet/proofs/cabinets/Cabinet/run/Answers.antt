@@ -10,7 +10,7 @@ use Rattle.cabinet.proofs.cabinets.Cabinet.run.Goals as goal
 pub loop-i-preserved : goal.loop-i-preserved
 loop-i-preserved g c =
     let m = g.B.Belief.means in
-    let k = g.B.Belief.letter in
+    let k = g.B.Belief.LETTER in
     let cs = c.args.calls.now in
     let rs = c.loop-i.returns in
     let i = c.loop-i.i in
@@ -31,7 +31,7 @@ loop-i-preserved g c =
 pub returns : goal.returns
 returns g c =
     let m = g.B.Belief.means in
-    let k = g.B.Belief.letter in
+    let k = g.B.Belief.LETTER in
     let cs = c.args.calls.now in
     let rs = c.loop-i.returns in
     let i = c.loop-i.i in

@@ -9,10 +9,10 @@ abbrev pub invariant-loop-i : goal.invariant-loop-i
 invariant-loop-i g l =
     ((w : Setting) (x before : List ℕ) (past : Past) →
     Stands w x before past (understood g.B.Belief.means (state l.initial.self l.initial.register.entries.now l.initial.audit)) →
-    Stands w x before (events g.B.Belief.means g.B.Belief.letter (take l.i l.calls) (take l.i l.returns) past)
+    Stands w x before (events g.B.Belief.means g.B.Belief.LETTER (take l.i l.calls) (take l.i l.returns) past)
     (understood g.B.Belief.means (state l.self l.register.entries.now l.audit)))
     × (understood g.B.Belief.means (state l.self l.register.entries.now l.audit)
     ≡ left (understood g.B.Belief.means (state l.initial.self l.initial.register.entries.now l.initial.audit))
-    (events g.B.Belief.means g.B.Belief.letter (take l.i l.calls) (take l.i l.returns) []))
+    (events g.B.Belief.means g.B.Belief.LETTER (take l.i l.calls) (take l.i l.returns) []))
     × (drop l.i l.returns ≡ drop l.i l.initial.returns)
     × (l.register.entries.ghost_name ≡ l.initial.register.entries.ghost_name)
