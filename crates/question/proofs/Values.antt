@@ -1,6 +1,7 @@
 -- No value passes its bound, and within the limit a number fits 64 bits.
 use Rattle.std.proofs.Common.{◌≡◌, ℕ, zero, suc, ◌+◌, ◌*◌, ◌≤◌, max, Bool, true, false, cond, not, ◌&&◌, ◌||◌, eqb, List, get_or, ℤ, pos, negsuc, ◌+ℤ◌, ◌-ℤ◌, ◌*ℤ◌, neg_ℤ, nat_abs, sym, refl, ap, ◌∙◌, subst, mul-le-mul, arith, w64, SFits, of_z}
 use Rattle.std.proofs.lemmas.Int.{ints}
+use Rattle.std.specs.Int.{from_bool}
 use lib.Signed.{lt_z}
 use Rattle.question.specs.Expressions.{limit, Op, plus, minus, times, less, equal, and, or, index, Expression, field, number, two, nought, choose, truth, is_zero, same, applied, worth, bound}
 use Rattle.std.proofs.lemmas.Bool.Decides.{nat_tests}
@@ -66,6 +67,11 @@ times_fits x y h k = fits64 (x *ℤ y) (omega (arith, abs_times x y, mul-le-mul 
 pub zero_bits : (x : ℤ) → nat_abs x ≤ limit → eqb (of_z w64 x) 0 ≡ is_zero x
 zero_bits (pos a) h = refl
 zero_bits (negsuc a) h = grind (arith, nat_tests)
+
+-- a test as a number
+pub truth_bit : (b : Bool) → pos (from_bool b) ≡ truth b
+truth_bit true = refl
+truth_bit false = refl
 
 -- ---- the value of a command from those of its operands
 

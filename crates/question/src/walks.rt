@@ -48,7 +48,7 @@ pub(crate) fn bound(bytes: &[u8]) -> Result<(u64, &[u8]), usize>
             _ => unreachable(),
         },
         'c' => match rest {
-            [hi, lo, rest @ ..] => Ok((*hi as u64 * 256 + *lo as u64, rest)),
+            [hi, lo, rest @ ..] => Ok((u64::from(u16::from_be_bytes([*hi, *lo])), rest)),
             _ => unreachable(),
         },
         '!' => {
@@ -92,7 +92,7 @@ pub(crate) fn value(bytes: &[u8], sheet: [u8; 4]) -> (i64, &[u8])
         'c' => number_value(bytes),
         '!' => {
             let (x, rest) = operand(rest, sheet);
-            (flag(x == 0), rest)
+            (i64::from(x == 0), rest)
         }
         '?' => {
             let (x, rest) = operand(rest, sheet);
@@ -128,7 +128,7 @@ fn field_value(bytes: &[u8], sheet: [u8; 4]) -> (i64, &[u8])
     ensures { Each (Worth sheet result.0) bytes.now result.1.now }
 {
     match bytes {
-        [_, k, rest @ ..] if *k <= 3 => (sheet[*k as usize] as i64, rest),
+        [_, k, rest @ ..] if *k <= 3 => (i64::from(sheet[usize::from(*k)]), rest),
         _ => unreachable(),
     }
 }
@@ -140,7 +140,7 @@ fn number_value(bytes: &[u8]) -> (i64, &[u8])
     ensures { (s : List ℕ) → Each (Worth s result.0) bytes.now result.1.now }
 {
     match bytes {
-        [_, hi, lo, rest @ ..] => (*hi as i64 * 256 + *lo as i64, rest),
+        [_, hi, lo, rest @ ..] => (i64::from(u16::from_be_bytes([*hi, *lo])), rest),
         _ => unreachable(),
     }
 }
@@ -179,10 +179,10 @@ fn apply(command: char, x: i64, y: i64) -> i64
         '+' => x + y,
         '-' => x - y,
         '*' => x * y,
-        '<' => flag(x < y),
-        '=' => flag(x == y),
-        '&' => flag(x != 0 && y != 0),
-        _ => flag(x != 0 || y != 0),
+        '<' => i64::from(x < y),
+        '=' => i64::from(x == y),
+        '&' => i64::from(x != 0 && y != 0),
+        _ => i64::from(x != 0 || y != 0),
     }
 }
 
@@ -191,12 +191,6 @@ fn pick(x: i64, y: i64, z: i64) -> i64
     ensures { result ≡ (if is_zero x then z else y) }
 {
     if x == 0 { z } else { y }
-}
-
-fn flag(yes: bool) -> i64
-    ensures { result ≡ truth yes }
-{
-    if yes { 1 } else { 0 }
 }
 
 // Whether f k stands among the commands.
@@ -230,7 +224,7 @@ pub(crate) fn step_at(bytes: &[u8]) -> Option<Step>
     match (*less as char, *f as char, *c as char) {
         ('<', 'f', 'c') => Some(Step {
             field: *k,
-            bound: *hi as u16 * 256 + *lo as u16,
+            bound: u16::from_be_bytes([*hi, *lo]),
         }),
         _ => None,
     }

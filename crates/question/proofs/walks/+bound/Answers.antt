@@ -1,10 +1,10 @@
 -- What `bound` leaves to show.
-use Rattle.std.proofs.Common.{◌≡◌, ◌<◌, ◌≤◌, max, length, get_or, sym, refl, ap, ◌∙◌, subst, arith, rules}
+use Rattle.std.proofs.Common.{◌≡◌, ◌+◌, ◌*◌, ◌<◌, ◌≤◌, max, length, get_or, sym, refl, ap, ◌∙◌, subst, arith, rules}
 use Rattle.std.proofs.lemmas.Result.{err_from_is_err_and}
 use Rattle.question.specs.Expressions.{limit, limited}
 use Rattle.question.specs.Reading.{command}
 use Rattle.question.specs.Fronts.{Any, Each, Bounded, op_in, is_sign}
-use Rattle.question.proofs.Operands.{head, tail, longer, fair, drops, begins_one, begins_two, begins_two_2, begins_three, begins_three_2, begins_three_3}
+use Rattle.question.proofs.Operands.{head, tail, tail2, longer, fair, drops, begins_one, begins_two, begins_two_2, begins_three, begins_three_2, begins_three_3}
 use Rattle.question.proofs.Scan.{signed, signs, no_command}
 use Rattle.question.proofs.Bounds.{low, field_bounded, number_bounded, one_bounded, two_bounded, three_bounded, pass_one, pass_two, pass_two_2, pass_here, pass_three, pass_three_2, pass_three_3}
 use Rattle.question.proofs.walks.+bound.Goals as goal
@@ -146,7 +146,8 @@ returns-in-len2-up t c =
     let bs = c.args.bytes.now in
     let hi : get_or (tail bs) 0 0 ≤ 255 = search rules in
     let lo : get_or (tail bs) 1 0 ≤ 255 = search rules in
-    number_bounded bs (ap command c.in-c.is) hi lo
+    let e : c.from.result ≡ get_or (tail bs) 0 0 * 256 + get_or (tail bs) 1 0 = omega arith in
+    subst (λ n. Each (Bounded n) bs (tail2 (tail bs))) (sym e) (number_bounded bs (ap command c.in-c.is) hi lo)
 
 pub returns-in_ok-rest-in-33 : goal.returns-in_ok-rest-in-33
 returns-in_ok-rest-in-33 t c =

@@ -6,7 +6,7 @@ use Rattle.question.specs.Reading.{command}
 use Rattle.question.specs.Fronts.{Small, op_in, is_sign}
 use Rattle.question.proofs.Operands.{head, tail, longer, fair, drops, begins_one, begins_two, begins_two_2, begins_three, begins_three_2, begins_three_3}
 use Rattle.question.proofs.Scan.{signed, signs, no_command}
-use Rattle.question.proofs.Values.{ranged, fits64, zero_bits, one_worth, two_worth, three_worth}
+use Rattle.question.proofs.Values.{ranged, fits64, truth_bit, zero_bits, one_worth, two_worth, three_worth}
 use Rattle.question.proofs.walks.+operand_value.Goals as goal
 
 pub value-unreachable-requires : goal.value-unreachable-requires
@@ -103,9 +103,9 @@ value-returns-in-33 t c =
     let f : (k : ℕ) → get_or c.args.sheet k 0 ≤ 255 = search rules in
     let X = c.operand-x-in-33.result.0 in
     let x = ranged (tail bs) c.args.sheet f (begins_one {Q = Small} bs q c.requires (λ a h. h)) c.operand-x-in-33.ensures in
-    let z : SFits w64 c.flag.result = search rules in
-    let e : c.flag.result ≡ truth (is_zero X) = rw (zero_bits X x) at c.flag.ensures in
-    rw (to_z-of_z w64 c.flag.result z, e) (one_worth bs c.args.sheet q c.operand-x-in-33.ensures)
+    let z : SFits w64 c.from.result = search rules in
+    let e : c.from.result ≡ truth (is_zero X) = c.from.ensures ∙ (truth_bit _ ∙ ap truth (zero_bits X x)) in
+    rw (to_z-of_z w64 c.from.result z, e) (one_worth bs c.args.sheet q c.operand-x-in-33.ensures)
 
 pub value-returns-in-63 : goal.value-returns-in-63
 value-returns-in-63 t c =

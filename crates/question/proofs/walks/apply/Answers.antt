@@ -26,9 +26,3 @@ returns-in-42 c =
     let x = fits64 X (omega (arith, c.requires.small.first)) in
     let y = fits64 Y (omega (arith, c.requires.small.second)) in
     rw (to_z-of_z w64 X x, to_z-of_z w64 Y y, to_z-of_z w64 (X *ℤ Y) (times_fits X Y c.requires.small.first c.requires.small.second), c.in-42.is)
-
-pub returns-in-61 : goal.returns-in-61
-returns-in-61 c =
-    let z : SFits w64 c.flag-in-61.result = search rules in
-    let e = same_bits c.args.x c.args.y c.requires.small.first c.requires.small.second in
-    rw (to_z-of_z w64 c.flag-in-61.result z, c.in-61.is, c.flag-in-61.ensures, e)

@@ -1,5 +1,5 @@
 -- What `field_value` leaves to show.
-use Rattle.std.proofs.Common.{◌≡◌, ℕ, ◌<◌, ◌≤◌, length, get_or, pos, sym, refl, subst, arith, w64, to_z, rules}
+use Rattle.std.proofs.Common.{◌≡◌, ℕ, ◌<◌, ◌≤◌, length, get_or, pos, sym, refl, ap, subst, arith, w64, to_z, of_z, rules}
 use Rattle.std.proofs.lemmas.Int.{ints}
 use Rattle.question.specs.Fronts.{Each, Worth}
 use Rattle.question.proofs.Operands.{tail2, longer, fair, tail_at}
@@ -17,7 +17,6 @@ unreachable-requires c =
 pub returns : goal.returns
 returns c =
     let bs = c.args.bytes.now in
-    let k = get_or bs 1 0 in
-    let f : (k : ℕ) → get_or c.args.sheet k 0 ≤ 255 = search rules in
-    let e : to_z w64 (get_or c.args.sheet k 0) ≡ pos (get_or c.args.sheet k 0) = omega (arith, ints, f k) in
+    let i = ap (λ k. get_or c.args.sheet k 0) c.from.ensures in
+    let e : to_z w64 (of_z w64 c.from-in-len2-up.result) ≡ pos (get_or c.args.sheet (get_or bs 1 0) 0) = omega (arith, ints) in
     subst (λ v. Each (Worth c.args.sheet v) bs (tail2 bs)) (sym e) (field_worth bs c.args.sheet c.requires.field)

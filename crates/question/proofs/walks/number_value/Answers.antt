@@ -16,7 +16,5 @@ unreachable-requires c =
 pub returns : goal.returns
 returns c =
     let bs = c.args.bytes.now in
-    let hi : get_or bs 1 0 ≤ 255 = search rules in
-    let lo : get_or bs 2 0 ≤ 255 = search rules in
-    let e : to_z w64 (of_z w64 (to_z w64 (of_z w64 (to_z w64 (get_or bs 1 0) *ℤ pos 256)) +ℤ to_z w64 (get_or bs 2 0))) ≡ pos (get_or bs 1 0 * 256 + get_or bs 2 0) = omega (arith, ints, hi, lo) in
+    let e : to_z w64 (of_z w64 c.from.result) ≡ pos (get_or bs 1 0 * 256 + get_or bs 2 0) = omega (arith, ints) in
     λ s. subst (λ v. Each (Worth s v) bs (tail3 bs)) (sym e) (number_worth bs s c.requires.number)
