@@ -2,10 +2,13 @@
 use Rattle.std.proofs.Common.{◌≡◌, ℕ, true, false, List, [], IfOk, Ok, Err, Result, refl, ap, arith}
 use Rattle.refusal.specs.Replies.{Reply, given, declined, reply}
 use Rattle.refusal.specs.declared.list.Refusal.{Refusal}
+use Rattle.question.specs.declared.checked.Question.{Question}
 use Rattle.question.specs.Expressions.{Expression}
 use Rattle.question.specs.Reading.{reading}
 use Rattle.question.specs.Fronts.{Begins, Any, Small}
 use Rattle.question.specs.Questions.{read_or, is_question}
+use Rattle.question.specs.Texts.{text}
+use Rattle.question.proofs.Questions.{text_asks}
 use Rattle.question.proofs.Front.{Accepted, accepted, checked}
 
 asked_by : (r : Reply Expression) → read_or false (λ e. true) r ≡ true → given tt ≡ checked r
@@ -21,9 +24,9 @@ pub asks : (q : List ℕ) → given tt ≡ checked (reading q) → is_question q
 unfolding is_question
 asks q h = ap (read_or false (λ e. true)) (accepted q h).reads
 
-pub asked_if_ok : (q : List ℕ) (r : Result (Unit {0}) Refusal) → reply r ≡ checked (reading q) → IfOk r (λ _. is_question q ≡ true)
-asked_if_ok q (Ok u) h = asks q h
-asked_if_ok q (Err e) h = tt
+-- what a question holds was accepted
+pub held : (q : Question) → Accepted (text q)
+held q = asked (text q) (text_asks q)
 
 -- what the walks over its bytes ask for
 pub begins : {q : List ℕ} → Accepted q → Begins Small q

@@ -3,7 +3,7 @@ use Rattle.std.proofs.Common.{◌≡◌, ℕ, zero, suc, ◌+◌, ◌*◌, ◌/�
 use borrow.Author.Tests.{eqb-false}
 use Rattle.std.proofs.ByRecursion.{All-append}
 use Rattle.std.proofs.lemmas.Bool.Decides.{nat_tests}
-use Rattle.std.specs.List.{AllByRecursion}
+use Rattle.std.specs.List.{AllByRecursion, list_all, range_with_len}
 use Rattle.refusal.specs.Replies.{Reply, given, declined, mapped}
 use Rattle.question.specs.declared.checked.Question.{Question}
 use Rattle.question.specs.declared.steps.Step.{Step}
@@ -250,6 +250,14 @@ all_below_true (suc n) p h = let a = all_below_true n p (λ k l. h k (omega arit
 pub all_more : (n : ℕ) (p : ℕ → Bool) → all_below n p ≡ true → p n ≡ true → all_below (n + 1) p ≡ true
 unfolding all_below
 all_more n p a b = let e : all_below (suc n) p ≡ true = simp (a, b) in rw add-one e
+
+-- as a walk over the four fields finds it
+pub all_four : (p : ℕ → Bool) → list_all p (range_with_len 0 4) ≡ all_below 4 p
+unfolding all_below
+all_four p = by (p 0) (p 1) (p 2) (p 3)
+  where
+    by : (a b c d : Bool) → a && (b && (c && (d && true))) ≡ ((a && b) && c) && d
+    by a b c d = grind arith
 
 not-true : (b : Bool) → (b ≡ true → ⊥) → b ≡ false
 not-true true g = let z : ⊥ = g refl in elim z [ ]

@@ -7,13 +7,13 @@
 
 mod checked;
 mod listed;
-mod meanings;
+mod spans;
 mod steps;
 mod walks;
 
 pub use checked::Question;
 pub use listed::Steps;
-pub use meanings::in_span;
+pub use spans::in_span;
 pub use steps::Step;
 
 // The greatest answer.

@@ -1,22 +1,21 @@
 // What is asked of a question.
-ghost use Rattle.std.specs.Prelude.{◌≡◌, ◌≤◌, true, length, take, unsigned_abs};
+ghost use Rattle.std.specs.Prelude.{◌≡◌, ◌≤◌, length, take, unsigned_abs};
 ghost use Rattle.std.specs.Option.{option_map as seen};
 ghost use Rattle.refusal.specs.Replies.{reply, mapped};
-ghost use Rattle.question.specs.Expressions.{longest, limit};
+ghost use Rattle.question.specs.Expressions.{longest, limit, clamped};
 ghost use Rattle.question.specs.Reading.{reading};
 ghost use Rattle.question.specs.Laws.{Only, Unique};
 ghost use Rattle.question.specs.Steps.{Simply};
-ghost use Rattle.question.specs.Questions.{is_question, bound_of, value_of, answers, reads_field, reads_in, simple_as, stepped_as};
+ghost use Rattle.question.specs.Questions.{bound_of, value_of, answers, reads_field, reads_in, simple_as, stepped_as};
 ghost use Rattle.question.specs.Texts.{text, taken};
 ghost use Rattle.question.specs.Cases.{Worked};
 
-use crate::LONGEST;
 use crate::checked::Question;
 use crate::listed::Steps;
-use crate::meanings::{
-    bound_of, check, clamp, reads_field, reads_span, simple_of, steps_of, value_of,
-};
+use crate::spans::in_span;
 use crate::steps::Step;
+use crate::walks::{bound, gather, mentions, read, step_at, value};
+use crate::{FIELDS, GREATEST, LONGEST};
 use refusal::Refusal;
 
 impl Question {
@@ -28,14 +27,17 @@ impl Question {
         ensures cases { Worked }
     {
         check(bytes)?;
-        Ok(keep(bytes))
+        Ok(Question {
+            bytes: padded(bytes),
+            len: bytes.len(),
+        })
     }
 
     // Its bytes.
     pub fn text(&self) -> &[u8]
         ensures { result.now ≡ text self.now }
     {
-        self.held()
+        &self.bytes[0..self.len]
     }
 
     // The bound of the whole.
@@ -43,7 +45,10 @@ impl Question {
         ensures is { result ≡ bound_of (text self.now) }
         ensures low { result ≤ limit }
     {
-        bound_of(self.held())
+        match bound(self.text()) {
+            Ok((n, _)) => n,
+            Err(_) => unreachable(),
+        }
     }
 
     // Its value on a sheet.
@@ -51,28 +56,28 @@ impl Question {
         ensures is { result ≡ value_of (text self.now) sheet }
         ensures within { unsigned_abs result ≤ bound_of (text self.now) }
     {
-        value_of(self.held(), sheet)
+        value(self.text(), sheet).0
     }
 
     // The answer that a sheet gives.
     pub fn answer(&self, sheet: [u8; 4]) -> u8
         ensures { result ≡ answers (text self.now) sheet }
     {
-        clamp(value_of(self.held(), sheet))
+        clamp(self.value(sheet))
     }
 
     // Whether field k is read.
     pub fn reads(&self, k: u8) -> bool
         ensures { result ≡ reads_field (text self.now) k }
     {
-        reads_field(self.held(), k)
+        mentions(self.text(), k)
     }
 
-    // Whether all fields that are read lie in a span.
+    // Whether all fields that are read lie in a span; it is walked through for the fields outside the span alone.
     pub fn reads_in(&self, first: u8, count: u8) -> bool
         ensures { result ≡ reads_in first count (text self.now) }
     {
-        reads_span(self.held(), first, count)
+        (0..FIELDS).all(|k| in_span(first, count, k) || !self.reads(k))
     }
 
     // The step that it is, if it is one and nothing more.
@@ -80,33 +85,31 @@ impl Question {
         ensures is { result ≡ simple_as (text self.now) }
         ensures bytes { Simply (text self.now) result }
     {
-        simple_of(self.held())
+        step_at(self.text())
     }
 
     // Its steps, if every field that is read belongs to one.
     pub fn steps(&self) -> Option<Steps>
         ensures { seen taken result ≡ stepped_as (text self.now) }
     {
-        steps_of(self.held())
-    }
-
-    // Its bytes, as those of a question.
-    fn held(&self) -> &[u8]
-        ensures is { result.now ≡ text self.now }
-        ensures asked { is_question result.now ≡ true }
-    {
-        &self.bytes[0..self.len]
+        gather(self.text(), Steps::none())
     }
 }
 
-// The question that bytes are which are one.
-fn keep(bytes: &[u8]) -> Question
-    requires { is_question bytes.now ≡ true }
-    ensures { text result ≡ bytes.now }
+// Whether bytes are a question: by their length, then by their commands, then by the bounds of these.
+fn check(bytes: &[u8]) -> Result<(), Refusal>
+    ensures { reply result ≡ mapped (λ e. tt) (reading bytes.now) }
 {
-    Question {
-        bytes: padded(bytes),
-        len: bytes.len(),
+    if bytes.len() > LONGEST {
+        return Err(Refusal::Unreadable(LONGEST));
+    }
+    match read(bytes) {
+        Ok([]) => match bound(bytes) {
+            Ok(_) => Ok(()),
+            Err(left) => Err(Refusal::Bound(bytes.len() - left)),
+        },
+        Ok(rest) => Err(Refusal::Unreadable(bytes.len() - rest.len())),
+        Err(left) => Err(Refusal::Unreadable(bytes.len() - left)),
     }
 }
 
@@ -118,4 +121,18 @@ fn padded(bytes: &[u8]) -> [u8; LONGEST]
     let mut all = [0; LONGEST];
     all[0..bytes.len()].copy_from_slice(bytes);
     all
+}
+
+// The greatest answer as a value.
+const MOST: i64 = GREATEST as i64;
+
+// A value as an answer.
+fn clamp(value: i64) -> u8
+    ensures { result ≡ clamped value }
+{
+    match value {
+        v if v < 0 => 0,
+        0..=MOST => value as u8,
+        _ => GREATEST,
+    }
 }

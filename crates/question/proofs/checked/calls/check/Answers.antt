@@ -1,11 +1,11 @@
--- What `examine` leaves to show.
+-- What `check` leaves to show.
 use Rattle.std.proofs.Common.{◌≡◌, ◌+◌, ◌-◌, ◌<◌, ◌≤◌, [], ◌∷◌, length, Some, None, sym, refl, ap, ◌∙◌, arith, rules}
 use Rattle.question.specs.Expressions.{longest}
 use Rattle.refusal.specs.Replies.{given, declined, mapped}
 use Rattle.question.specs.Fronts.{question}
 use Rattle.question.proofs.Scan.{shorter}
 use Rattle.question.proofs.Front.{reading_long, left_least, checks, left_over, goes_wrong}
-use Rattle.question.proofs.meanings.examine.Goals as goal
+use Rattle.question.proofs.checked.calls.check.Goals as goal
 
 pub returns-then-bytes-gt-LONGEST : goal.returns-then-bytes-gt-LONGEST
 returns-then-bytes-gt-LONGEST c = sym (ap (mapped (λ t. tt)) (reading_long c.args.bytes.now c.if-bytes-gt-LONGEST.true))
