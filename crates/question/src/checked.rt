@@ -7,6 +7,7 @@ use crate::LONGEST;
 
 mod calls;
 
+// Its bytes are its own, in a fixed array with their number beside: no memory is asked for, and a question is copied as a value.
 #[derive(Clone, Copy)]
 pub struct Question {
     bytes: [u8; LONGEST],

@@ -7,12 +7,14 @@
 
 mod checked;
 mod listed;
+mod padding;
 mod spans;
 mod steps;
 mod walks;
 
 pub use checked::Question;
 pub use listed::Steps;
+pub use padding::padded;
 pub use spans::in_span;
 pub use steps::Step;
 

@@ -13,6 +13,7 @@ pub(crate) const STEP_BYTES: usize = 6;
 // The most steps that a question has.
 pub(crate) const MOST_STEPS: usize = LONGEST / STEP_BYTES;
 
+// A fixed array with their number beside: no memory is asked for, and the steps are copied as a value.
 #[derive(Clone, Copy)]
 pub struct Steps {
     list: [Step; MOST_STEPS],

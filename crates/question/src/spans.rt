@@ -3,8 +3,9 @@ ghost use Rattle.std.specs.Prelude.{◌≡◌};
 ghost use Rattle.question.specs.Questions.{in_span};
 
 // Whether field k lies in the span of count fields from first.
+#[tactic(auto, unfolding(crate::specs::Questions::in_span))]
 pub fn in_span(first: u8, count: u8, k: u8) -> bool
     ensures { result ≡ in_span first count k }
 {
-    (first <= k) & (u16::from(k) < u16::from(first) + u16::from(count))
+    first <= k && k - first < count
 }

@@ -1,7 +1,8 @@
-// Walks over the bytes of a question, each from a command to its operands.
+// Walks over the bytes of a question, each from a command to its operands. A byte is cast to its character, as `char::from` would say at more length.
+// What must begin at the bytes is asked of each walk: a type for it would be made anew at each operand, of bytes that the one before it leaves.
 ghost use Rattle.std.specs.Prelude.{◌≡◌, ℕ, ◌+◌, ◌*◌, ◌<◌, ◌≤◌, List, length, IfSome, if◌then◌else◌, MatchResult, slice_index};
 ghost use Rattle.std.specs.Option.{option_map as seen};
-ghost use Rattle.question.specs.Expressions.{longest, limit, truth, is_zero, applied, limited};
+ghost use Rattle.question.specs.Expressions.{longest, limit, is_zero, applied, limited};
 ghost use Rattle.question.specs.Reading.{a_field, a_number, command as command_of};
 ghost use Rattle.question.specs.Fronts.{Reads, Stuck, Begins, Any, Each, Small, Worth, Bounded, Passes, Signs, is_sign, op, Both, scan, front_step, prefixed, walk};
 ghost use Rattle.question.specs.Texts.{taken};
@@ -149,10 +150,7 @@ fn number_value(bytes: &[u8]) -> (i64, &[u8])
 fn takes_two(command: char) -> bool
     ensures { result ≡ is_sign (command_of command) }
 {
-    match command {
-        '+' | '-' | '*' | '<' | '=' | '&' | '|' => true,
-        _ => false,
-    }
+    matches!(command, '+' | '-' | '*' | '<' | '=' | '&' | '|')
 }
 
 // What a command of two operands makes of their bounds.

@@ -1,8 +1,8 @@
 // What is asked of a question.
-ghost use Rattle.std.specs.Prelude.{◌≡◌, ◌≤◌, length, take, unsigned_abs};
+ghost use Rattle.std.specs.Prelude.{◌≡◌, ◌≤◌, unsigned_abs};
 ghost use Rattle.std.specs.Option.{option_map as seen};
 ghost use Rattle.refusal.specs.Replies.{reply, mapped};
-ghost use Rattle.question.specs.Expressions.{longest, limit, clamped};
+ghost use Rattle.question.specs.Expressions.{limit, clamped};
 ghost use Rattle.question.specs.Reading.{reading};
 ghost use Rattle.question.specs.Laws.{Only, Unique};
 ghost use Rattle.question.specs.Steps.{Simply};
@@ -12,6 +12,7 @@ ghost use Rattle.question.specs.Cases.{Worked};
 
 use crate::checked::Question;
 use crate::listed::Steps;
+use crate::padding::padded;
 use crate::spans::in_span;
 use crate::steps::Step;
 use crate::walks::{bound, gather, mentions, read, step_at, value};
@@ -28,7 +29,7 @@ impl Question {
     {
         check(bytes)?;
         Ok(Question {
-            bytes: padded(bytes),
+            bytes: padded(0, bytes),
             len: bytes.len(),
         })
     }
@@ -113,17 +114,7 @@ fn check(bytes: &[u8]) -> Result<(), Refusal>
     }
 }
 
-// Bytes that are few enough, with nothing after them that matters.
-fn padded(bytes: &[u8]) -> [u8; LONGEST]
-    requires { length bytes.now ≤ longest }
-    ensures { take (length bytes.now) result ≡ bytes.now }
-{
-    let mut all = [0; LONGEST];
-    all[0..bytes.len()].copy_from_slice(bytes);
-    all
-}
-
-// The greatest answer as a value.
+// The greatest answer as a value, by a cast: `From` makes no constant.
 const MOST: i64 = GREATEST as i64;
 
 // A value as an answer.

@@ -14,13 +14,11 @@ returns-in_err-check c =
     let bs = c.args.bytes.now in
     record { gives = search rules; law = only bs (bytes_from bs (search rules)); unique = unique; cases = worked }
 
-pub padded-requires : goal.padded-requires
-padded-requires c = (accepted c.args.bytes.now c.in_ok-check.ensures).short
-
 pub invariant_of-result : goal.invariant_of-result
 invariant_of-result c =
     let bs = c.args.bytes.now in
-    record { fits = (accepted bs c.in_ok-check.ensures).short; asked = ap is_question c.padded.ensures ∙ asks bs c.in_ok-check.ensures }
+    let short = (accepted bs c.in_ok-check.ensures).short in
+    record { fits = short; asked = ap is_question (c.padded.ensures.front short) ∙ asks bs c.in_ok-check.ensures }
 
 pub returns : goal.returns
 unfolding text
@@ -28,7 +26,7 @@ returns c =
     let bs = c.args.bytes.now in
     let a = accepted bs c.in_ok-check.ensures in
     record {
-      gives = ap given c.padded.ensures ∙ sym (ap (mapped (λ e. bs)) a.reads);
+      gives = ap given (c.padded.ensures.front a.short) ∙ sym (ap (mapped (λ e. bs)) a.reads);
       law = only bs (bytes_from bs (search rules));
       unique = unique;
       cases = worked;
