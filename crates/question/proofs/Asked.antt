@@ -13,7 +13,7 @@ use Rattle.question.proofs.Front.{Accepted, accepted, checked}
 
 asked_by : (r : Reply Expression) → read_or false (λ e. true) r ≡ true → given tt ≡ checked r
 asked_by (given e) h = refl
-asked_by (declined n p) h = let z : ◌≡◌ {A = ℕ} 0 1 = cc in absurd (omega arith)
+asked_by (declined n p) h = cc
 
 pub asked : (q : List ℕ) → is_question q ≡ true → Accepted q
 unfolding is_question

@@ -1,20 +1,14 @@
 -- The fields that stand among the commands are those of the expression.
 use Rattle.std.proofs.Common.{◌≡◌, ℕ, ◌≤◌, Bool, true, false, ◌||◌, eqb, List, [], ◌∷◌, ◌++◌, length, sym, refl, ap, ◌∙◌, inl, inr, append_assoc, eq-eqb}
+use Rattle.std.proofs.Math.Bool.{or-false, or_assoc}
+use Rattle.std.proofs.lemmas.Bool.{ne_eqb}
 use Rattle.question.specs.Expressions.{index, Expression, field, number, two, nought, choose, written, sign, mentions}
 use Rattle.question.specs.Fronts.{scan}
 use Rattle.question.proofs.Operands.{sign_apart, head, tail, tail2, opened, opened2}
-use Rattle.question.proofs.Scan.{either, front_is}
-
-or_false : (x : Bool) → x ≡ x || false
-or_false true = refl
-or_false false = refl
-
-or_assoc : (x y z : Bool) → x || (y || z) ≡ (x || y) || z
-or_assoc true y z = refl
-or_assoc false y z = refl
+use Rattle.question.proofs.Scan.{front_is}
 
 scan_field : (k x : ℕ) (bs : List ℕ) → scan k (102 ∷ x ∷ bs) ≡ eqb x k || scan k bs
-scan_field k x [] = or_false (eqb x k)
+scan_field k x [] = sym (or-false (eqb x k))
 scan_field k x (y ∷ bs) = refl
 
 scan_other : (k b : ℕ) (bs : List ℕ) → eqb b 102 ≡ false → eqb b 99 ≡ false → scan k (b ∷ bs) ≡ scan k bs
@@ -30,18 +24,18 @@ scan_written k (two o a b) rest =
     ∙ (ap (scan k) (append_assoc (written a) (written b) rest)
     ∙ (scan_written k a (written b ++ rest)
     ∙ (ap (λ x. mentions k a || x) (scan_written k b rest)
-    ∙ or_assoc (mentions k a) (mentions k b) (scan k rest))))
+    ∙ sym (or_assoc (mentions k a) (mentions k b) (scan k rest)))))
 scan_written k (nought a) rest = scan_other k 33 (written a ++ rest) refl refl ∙ scan_written k a rest
 scan_written k (choose a b c) rest =
     scan_other k 63 ((written a ++ (written b ++ written c)) ++ rest) refl refl
     ∙ (ap (scan k) (append_assoc (written a) (written b ++ written c) rest)
     ∙ (scan_written k a ((written b ++ written c) ++ rest)
     ∙ (ap (λ x. mentions k a || x) (ap (scan k) (append_assoc (written b) (written c) rest)
-    ∙ (scan_written k b (written c ++ rest) ∙ (ap (λ x. mentions k b || x) (scan_written k c rest) ∙ or_assoc (mentions k b) (mentions k c) (scan k rest))))
-    ∙ or_assoc (mentions k a) (mentions k b || mentions k c) (scan k rest))))
+    ∙ (scan_written k b (written c ++ rest) ∙ (ap (λ x. mentions k b || x) (scan_written k c rest) ∙ sym (or_assoc (mentions k b) (mentions k c) (scan k rest)))))
+    ∙ sym (or_assoc (mentions k a) (mentions k b || mentions k c) (scan k rest)))))
 
 pub scan_whole : (k : ℕ) (t : Expression) → scan k (written t ++ []) ≡ mentions k t
-scan_whole k t = scan_written k t [] ∙ sym (or_false (mentions k t))
+scan_whole k t = scan_written k t [] ∙ or-false (mentions k t)
 
 -- ---- as the code takes bytes apart
 
@@ -51,14 +45,11 @@ at_field k bs e l = ap (scan k) (front_is bs 102 e refl refl ∙ ap (λ x. 102 �
 pub at_number : (k : ℕ) (bs : List ℕ) → head bs ≡ 99 → 2 ≤ length (tail bs) → scan k bs ≡ scan k (tail2 (tail bs))
 at_number k bs e l = ap (scan k) (front_is bs 99 e refl refl ∙ ap (λ x. 99 ∷ x) (opened2 (tail bs) l))
 
-pub apart : (b n : ℕ) → (b ≡ n → ⊥) → eqb b n ≡ false
-apart b n h = elim (either b n (eqb b n) refl) [ inl e ↦ absurd (h e) | inr z ↦ z ]
-
 pub at_other : (k : ℕ) (bs : List ℕ) → 1 ≤ length bs → (head bs ≡ 102 → ⊥) → (head bs ≡ 99 → ⊥) → scan k bs ≡ scan k (tail bs)
-at_other k bs l f n = ap (scan k) (opened bs l) ∙ scan_other k (head bs) (tail bs) (apart (head bs) 102 f) (apart (head bs) 99 n)
+at_other k bs l f n = ap (scan k) (opened bs l) ∙ scan_other k (head bs) (tail bs) (ne_eqb (head bs) 102 f) (ne_eqb (head bs) 99 n)
 
 pub hit : (j k : ℕ) (x : Bool) → j ≡ k → eqb j k ≡ eqb j k || x
 hit j k x e = rw (eq-eqb j k e)
 
 pub miss : (j k : ℕ) (x : Bool) → (j ≡ k → ⊥) → x ≡ eqb j k || x
-miss j k x h = rw (apart j k h)
+miss j k x h = rw (ne_eqb j k h)

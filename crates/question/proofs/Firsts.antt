@@ -7,7 +7,7 @@ use Rattle.question.specs.Laws.{Within, Passing}
 
 none_by : (x : Bool) (p : ℕ) (u v w : Option ℕ) → (u ≡ None → v ≡ w) → cond x u (Some p) ≡ None → cond x v (Some p) ≡ w
 none_by true p u v w f e = f e
-none_by false p u v w f e = let z : ◌≡◌ {A = ℕ} 0 1 = cc in absurd (omega arith)
+none_by false p u v w f e = cc
 
 some_by : (x : Bool) (p q : ℕ) (u v : Option ℕ) → (u ≡ Some q → v ≡ Some q) → cond x u (Some p) ≡ Some q → cond x v (Some p) ≡ Some q
 some_by true p q u v f e = f e
@@ -19,7 +19,7 @@ first_none [] ds e = refl
 first_none (c ∷ cs) ds e = none_by (nat_le c.size limit) c.place (first_over cs) (first_over (cs ++ ds)) (first_over ds) (first_none cs ds) e
 
 pub first_some : (cs ds : List Placed) {q : ℕ} → first_over cs ≡ Some q → first_over (cs ++ ds) ≡ Some q
-first_some [] ds e = let z : ◌≡◌ {A = ℕ} 0 1 = cc in absurd (omega arith)
+first_some [] ds e = cc
 first_some (c ∷ cs) ds {q} e = some_by (nat_le c.size limit) c.place q (first_over cs) (first_over (cs ++ ds)) (first_some cs ds) e
 
 pub here : (c : Placed) (cs : List Placed) → limit < c.size → first_over (c ∷ cs) ≡ Some c.place
@@ -31,7 +31,7 @@ clear c cs h = let e : nat_le c.size limit ≡ true = grind (arith, nat_tests) i
 -- where two lists have none, neither has one
 split_by : (x : Bool) (p : ℕ) (u v w : Option ℕ) → (v ≡ None → (u ≡ None) × (w ≡ None)) → cond x v (Some p) ≡ None → (cond x u (Some p) ≡ None) × (w ≡ None)
 split_by true p u v w f e = f e
-split_by false p u v w f e = let z : ◌≡◌ {A = ℕ} 0 1 = cc in absurd (omega arith)
+split_by false p u v w f e = cc
 
 pub both_none : (cs ds : List Placed) → first_over (cs ++ ds) ≡ None → (first_over cs ≡ None) × (first_over ds ≡ None)
 both_none [] ds e = (refl, e)
@@ -41,7 +41,7 @@ both_none (c ∷ cs) ds e = split_by (nat_le c.size limit) c.place (first_over c
 
 within_by : (c : Placed) (cs : List Placed) (x : Bool) → nat_le c.size limit ≡ x → (first_over cs ≡ None → Within cs) → cond x (first_over cs) (Some c.place) ≡ None → Within (c ∷ cs)
 within_by c cs true l f e = (leb-true c.size limit l, f e)
-within_by c cs false l f e = let z : ◌≡◌ {A = ℕ} 0 1 = cc in absurd (omega arith)
+within_by c cs false l f e = cc
 
 pub none_within : (cs : List Placed) → first_over cs ≡ None → Within cs
 none_within [] e = tt
@@ -75,7 +75,7 @@ passing_by c cs {p} false l f e =
     }
 
 pub some_passing : (cs : List Placed) {p : ℕ} → first_over cs ≡ Some p → Passing cs p
-some_passing [] e = let z : ◌≡◌ {A = ℕ} 0 1 = cc in absurd (omega arith)
+some_passing [] e = cc
 some_passing (c ∷ cs) e = passing_by c cs (nat_le c.size limit) refl (some_passing cs) e
 
 pub passing_some : (cs : List Placed) {p : ℕ} → Passing cs p → first_over cs ≡ Some p

@@ -119,12 +119,9 @@ agree (suc n) (b ∷ bs) h = agree_step n (front n) b bs (agree n) (omega arith)
 
 -- ---- the reading
 
-not_some : {l : ℕ} → None ≡ Some l → ⊥
-not_some e = let z : ◌≡◌ {A = ℕ} 0 1 = cc in omega arith
-
 no_found : (r : List ℕ) (l : ℕ) → stuck [] r ≡ Some l → stuck (any ∷ []) r ≡ Some l → ⊥
-no_found [] l e f = not_some e
-no_found (x ∷ []) l e f = not_some f
+no_found [] l e f = cc
+no_found (x ∷ []) l e f = cc
 no_found (x ∷ y ∷ r) l e f =
     let a : length (x ∷ y ∷ r) ≡ l = cc in
     let b : length (y ∷ r) ≡ l = cc in
@@ -179,12 +176,12 @@ checked v = mapped (λ t. tt) v
 
 accepted_over : (bs : List ℕ) (t : Expression) (o : Option ℕ) → length bs ≤ longest → first_over (completed 0 t) ≡ o → bs ≡ written t ++ [] → reading bs ≡ limits t o → given tt ≡ checked (limits t o) → Accepted bs
 accepted_over bs t None m o e r h = record { short = m; tree = t; is = e; small = clear_small t 0 o; clear = o; reads = r }
-accepted_over bs t (Some p) m o e r h = let z : ◌≡◌ {A = ℕ} 0 1 = cc in absurd (omega arith)
+accepted_over bs t (Some p) m o e r h = cc
 
 accepted_front : (bs : List ℕ) (F : Front) → length bs ≤ longest → Agree bs F → reading bs ≡ whole (length bs) F → given tt ≡ checked (whole (length bs) F) → Accepted bs
-accepted_front bs (wrong l) m g r h = let z : ◌≡◌ {A = ℕ} 0 1 = cc in absurd (omega arith)
+accepted_front bs (wrong l) m g r h = cc
 accepted_front bs (found t []) m g r h = accepted_over bs t (first_over (completed 0 t)) m refl g r h
-accepted_front bs (found t (b ∷ q)) m g r h = let z : ◌≡◌ {A = ℕ} 0 1 = cc in absurd (omega arith)
+accepted_front bs (found t (b ∷ q)) m g r h = cc
 
 accepted_length : (bs : List ℕ) (x : Bool) → nat_le (length bs) longest ≡ x → given tt ≡ checked (reading bs) → Accepted bs
 unfolding reading
@@ -195,7 +192,7 @@ accepted_length bs true e h =
 accepted_length bs false e h =
     let r : reading bs ≡ declined 9 (Some longest) = rw e in
     let f : given tt ≡ checked (declined 9 (Some longest)) = h ∙ ap checked r in
-    let z : ◌≡◌ {A = ℕ} 0 1 = cc in absurd (omega arith)
+    cc
 
 pub accepted : (bs : List ℕ) → given tt ≡ checked (reading bs) → Accepted bs
 accepted bs h = accepted_length bs (nat_le (length bs) longest) refl h
@@ -207,7 +204,7 @@ follow ss b bs left None h e = let z : length (b ∷ bs) ≡ left = cc in omega 
 follow ss b bs left (Some new) h e = omega (arith, h (new ++ ss) e)
 
 pub left_least : (ss : List Slot) (bs : List ℕ) (left : ℕ) → stuck ss bs ≡ Some left → left ≤ length bs
-left_least [] [] left e = absurd (not_some e)
+left_least [] [] left e = cc
 left_least [] (b ∷ bs) left e = let z : length (b ∷ bs) ≡ left = cc in omega arith
 left_least (s ∷ ss) [] left e = let z : 0 ≡ left = cc in omega arith
 left_least (s ∷ ss) (b ∷ bs) left e = follow ss b bs left (follows s b) (λ new. left_least new bs left) e

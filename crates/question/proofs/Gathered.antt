@@ -1,5 +1,6 @@
 -- The steps among the commands are those of the expression.
 use Rattle.std.proofs.Common.{◌≡◌, ℕ, zero, suc, pred, ◌+◌, ◌-◌, ◌*◌, ◌/◌, ◌%◌, ◌<◌, ◌≤◌, Bool, true, false, cond, ◌&&◌, ◌||◌, eqb, nat_le, List, [], ◌∷◌, ◌++◌, length, get_or, take, drop, is_some, Some, None, Option, sym, refl, ap, ◌∙◌, append_assoc, append-nil, arith, length-drop, take_all}
+use Rattle.std.proofs.lemmas.Bool.{ne_eqb}
 use Rattle.std.proofs.lemmas.Bool.Decides.{nat_tests}
 use Rattle.question.specs.declared.steps.Step.{Step}
 use Rattle.question.specs.Expressions.{Op, plus, minus, times, less, equal, and, or, Field, index, Expression, field, number, two, nought, choose, written, sign}
@@ -8,7 +9,6 @@ use Rattle.question.specs.Fronts.{front_step, prefixed, walk}
 use Rattle.question.proofs.Operands.{sign_apart, head, tail, tail2, tail_cons, opened2}
 use Rattle.question.proofs.Stepping.{two_as, simple_as_step}
 use Rattle.question.proofs.Scan.{front_is}
-use Rattle.question.proofs.Fields.{apart}
 
 -- ---- some steps before others
 
@@ -126,7 +126,7 @@ passes (suc n) [] = refl
 passes (suc n) (x ∷ bs) = passes n bs
 
 past_step : (bs : List ℕ) {t : Step} → Some t ≡ front_step bs → walk 0 bs ≡ prefixed (t ∷ []) (walk 0 (take (length bs - 6) (drop 6 bs)))
-past_step [] e = let z : ◌≡◌ {A = ℕ} 0 1 = cc in absurd (omega arith)
+past_step [] e = cc
 past_step (b ∷ bs) {t} e =
     ap (on b bs) (sym e) ∙ ap (prefixed (t ∷ [])) (passes 5 bs ∙ ap (walk 0) (sym (take_all (length (b ∷ bs) - 6) (drop 5 bs) (omega (arith, length-drop 5 bs)))))
 
@@ -141,4 +141,4 @@ after_number bs n e l = ap (walk 0) (front_is bs 99 e refl refl ∙ ap (λ x. 99
 pub after_other : (bs : List ℕ) → None ≡ front_step bs → 1 ≤ length bs → (head bs ≡ 102 → ⊥) → (head bs ≡ 99 → ⊥) → walk 0 bs ≡ walk 0 (tail bs)
 after_other [] n l f g = absurd (omega arith)
 after_other (b ∷ bs) n l f g =
-    ap (on b bs) (sym n) ∙ (rw (apart b 102 f, apart b 99 g) (ap (walk 0) (sym (tail_cons b bs))))
+    ap (on b bs) (sym n) ∙ (rw (ne_eqb b 102 f, ne_eqb b 99 g) (ap (walk 0) (sym (tail_cons b bs))))

@@ -1,5 +1,7 @@
 -- The laws: unique reading, and the one reply that bytes are told.
-use Rattle.std.proofs.Common.{◌≡◌, ℕ, zero, suc, ◌+◌, ◌-◌, ◌<◌, ◌≤◌, Bool, true, false, ltb, nat_le, List, [], ◌∷◌, ◌++◌, length, get_or, take, drop, Some, None, Option, sym, refl, ap, ◌∙◌, subst, append_assoc, append-nil, le_refl, add-one, arith, length-append, take-append-drop, take-take, ltb-false, ltb-true, leb-false, leb-true}
+use Rattle.std.proofs.Common.{◌≡◌, ℕ, zero, suc, ◌+◌, ◌-◌, ◌<◌, ◌≤◌, Bool, true, false, ltb, nat_le, List, [], ◌∷◌, ◌++◌, length, get_or, take, drop, Some, None, Option, sym, refl, ap, ◌∙◌, subst, append_assoc, append-nil, le_refl, add-one, arith, length-append, take-append-drop, take-take, ltb-false, ltb-true, leb-false, leb-true, inl, inr}
+use Rattle.std.proofs.Math.Seq.{take-append_seam, take-append-add}
+use Rattle.std.proofs.lemmas.Bool.{cases_order}
 use Rattle.question.specs.Expressions.{longest, Expression, written, completed}
 use Rattle.refusal.specs.Replies.{Reply, declined}
 use Rattle.question.specs.Reading.{Front, found, wrong as astray, front, first_over, limits, whole, reading}
@@ -70,8 +72,7 @@ split_on s ss b bs l None o f e =
       shut = λ x q d g h.
           let y : x ≡ b = cc in
           let k : stuck (s ∷ ss) (x ∷ d) ≡ Some (length (x ∷ d)) = ap (λ i. (elim i [ None ↦ Some (length (x ∷ d)) | Some new ↦ stuck (new ++ ss) d ])) (ap (follows s) y ∙ o) in
-          let z : ◌≡◌ {A = ℕ} 0 1 = cc in
-          omega arith;
+          cc;
     }
 split_on s ss b bs l (Some new) o f e =
     let r = f (new ++ ss) e in
@@ -88,7 +89,7 @@ split_on s ss b bs l (Some new) o f e =
     }
 
 split : (ss : List Slot) (bs : List ℕ) (l : ℕ) → stuck ss bs ≡ Some l → Split ss bs l
-split [] [] l e = let z : ◌≡◌ {A = ℕ} 0 1 = cc in absurd (omega arith)
+split [] [] l e = cc
 split [] (b ∷ bs) l e =
     record {
       pre = [];
@@ -98,7 +99,7 @@ split [] (b ∷ bs) l e =
       end = [];
       bytes = tt;
       done = refl;
-      shut = λ x q d g h. let z : ◌≡◌ {A = ℕ} 0 1 = cc in omega arith;
+      shut = λ x q d g h. cc;
     }
 split (s ∷ ss) [] l e =
     record {
@@ -109,7 +110,7 @@ split (s ∷ ss) [] l e =
       end = fill (s ∷ ss);
       bytes = fill_bytes (s ∷ ss);
       done = fills (s ∷ ss);
-      shut = λ x q d g h. let z : ◌≡◌ {A = ℕ} 0 1 = cc in omega arith;
+      shut = λ x q d g h. cc;
     }
 split (s ∷ ss) (b ∷ bs) l e = split_on s ss b bs l (follows s b) refl (λ new. split new bs l) e
 
@@ -117,24 +118,16 @@ split (s ∷ ss) (b ∷ bs) l e = split_on s ss b bs l (follows s b) refl (λ ne
 
 ends : (r : List ℕ) → stuck [] r ≡ None → r ≡ []
 ends [] e = refl
-ends (x ∷ r) e = let z : ◌≡◌ {A = ℕ} 0 1 = cc in absurd (omega arith)
+ends (x ∷ r) e = cc
 
 whole_of_all : (bs : List ℕ) (F : Front) → Agree bs F → stuck (question ∷ []) bs ≡ None → (t : Expression) × (bs ≡ written t ++ [])
 whole_of_all bs (found t r) g e =
     let n = ends r (sym (passed {bs = bs} {rest = r} (record { tree = t; is = g }) []) ∙ e) in
     (t, g ∙ ap (λ i. written t ++ i) n)
-whole_of_all bs (astray l) g e = let h = g.whatever [] in let z : ◌≡◌ {A = ℕ} 0 1 = cc in absurd (omega arith)
+whole_of_all bs (astray l) g e = let h = g.whatever [] in cc
 
 not_stuck : (t : Expression) → stuck (question ∷ []) (written t) ≡ None
 not_stuck t = ap (stuck (question ∷ [])) (sym (append-nil (written t))) ∙ filled t [] []
-
-take_pre : (pre post : List ℕ) → take (length pre) (pre ++ post) ≡ pre
-take_pre [] post = refl
-take_pre (x ∷ pre) post = ap (λ i. x ∷ i) (take_pre pre post)
-
-take_next : (pre : List ℕ) (x : ℕ) (q : List ℕ) → take (suc (length pre)) (pre ++ (x ∷ q)) ≡ pre ++ (x ∷ [])
-take_next [] x q = refl
-take_next (y ∷ pre) x q = ap (λ i. y ∷ i) (take_next pre x q)
 
 opens_pre : (pre end : List ℕ) → Bytes end → stuck (question ∷ []) (pre ++ end) ≡ None → Opens pre
 opens_pre pre end b e =
@@ -144,7 +137,7 @@ opens_pre pre end b e =
 wrong_here : (pre post : List ℕ) → ((x : ℕ) (q d : List ℕ) → post ≡ x ∷ q → stuck (question ∷ []) (pre ++ (x ∷ d)) ≡ None → ⊥) → length pre < length (pre ++ post) → Opens (take (length pre + 1) (pre ++ post)) → ⊥
 wrong_here pre [] f h o = omega (arith, length-append pre [])
 wrong_here pre (x ∷ q) f h o =
-    let n : take (length pre + 1) (pre ++ (x ∷ q)) ≡ pre ++ (x ∷ []) = rw add-one (take_next pre x q) in
+    let n : take (length pre + 1) (pre ++ (x ∷ q)) ≡ pre ++ (x ∷ []) = take-append-add pre (x ∷ q) 1 in
     let e : written o.tree ≡ pre ++ (x ∷ o.rest) = o.is ∙ (ap (λ i. i ++ o.rest) n ∙ append_assoc pre (x ∷ []) o.rest) in
     f x q o.rest refl (sym (ap (stuck (question ∷ [])) e) ∙ not_stuck o.tree)
 
@@ -155,10 +148,10 @@ wrong_at bs l e =
     let p : length bs - l ≡ length s.pre = omega (arith, m, s.size) in
     record {
       within = omega arith;
-      before = subst Opens (sym (ap (λ i. take i bs) p ∙ (ap (take (length s.pre)) s.is ∙ take_pre s.pre s.post))) (opens_pre s.pre s.end s.bytes s.done);
+      before = subst Opens (sym (ap (λ i. take i bs) p ∙ (ap (take (length s.pre)) s.is ∙ take-append_seam s.pre s.post))) (opens_pre s.pre s.end s.bytes s.done);
       here = λ h o.
           wrong_here s.pre s.post s.shut (omega (arith, p, ap length s.is)) (subst Opens (ap (λ i. take (i + 1) bs) p ∙ ap (take (length s.pre + 1)) s.is) o);
-      none = λ t h. let f = sym e ∙ (ap (stuck (question ∷ [])) h ∙ not_stuck t) in let z : ◌≡◌ {A = ℕ} 0 1 = cc in omega arith;
+      none = λ t h. let f = sym e ∙ (ap (stuck (question ∷ [])) h ∙ not_stuck t) in cc;
     }
 
 -- ---- bytes go wrong in one place
@@ -192,12 +185,11 @@ wrong_before : (bs : List ℕ) → Bytes bs → {p q : ℕ} → Wrong bs p → W
 wrong_before bs b {p} {q} v w l = v.here (omega (arith, w.within)) (opens_before bs b (p + 1) q (omega arith) w.before)
 
 wrong_one : (bs : List ℕ) → Bytes bs → {p q : ℕ} → Wrong bs p → Wrong bs q → p ≡ q
-wrong_one bs b {p} {q} v w = by (ltb p q) refl (ltb q p) refl
-  where
-    by : (x : Bool) → ltb p q ≡ x → (y : Bool) → ltb q p ≡ y → p ≡ q
-    by true e y f = absurd (wrong_before bs b v w (ltb-true p q e))
-    by false e true f = absurd (wrong_before bs b w v (ltb-true q p f))
-    by false e false f = omega (arith, ltb-false p q e, ltb-false q p f)
+wrong_one bs b {p} {q} v w =
+    elim (cases_order p q) [
+      | inl e ↦ e
+      | inr apart ↦ elim apart [ inl l ↦ absurd (wrong_before bs b v w l) | inr g ↦ absurd (wrong_before bs b w v g) ]
+    ]
 
 -- ---- the reading is told
 

@@ -76,7 +76,7 @@ sign_apart or = (refl, refl)
 
 -- bytes with a command in front are that byte and the rest
 pub begun : (bs : List ℕ) {k : Command} → command (head bs) ≡ k → known k ≡ true → bs ≡ head bs ∷ tail bs
-begun [] {k} h g = let z : ◌≡◌ {A = ℕ} 0 1 = cc (ap known h) in absurd (omega arith)
+begun [] {k} h g = cc (ap known h)
 begun (x ∷ xs) h g = opened (x ∷ xs) (omega arith)
 
 pub longer : (bs : List ℕ) {k : Command} → command (head bs) ≡ k → known k ≡ true → length bs ≡ length (tail bs) + 1
@@ -115,10 +115,10 @@ pub record AField (t : Expression) (bs rest : List ℕ) : Type 0 where
 
 pub as_field : (t : Expression) (bs rest : List ℕ) → command (head bs) ≡ a_field → bs ≡ written t ++ rest → AField t bs rest
 as_field (field k) bs rest h e = record { k = k; is = refl; after = ap tail e ∙ tail_cons 102 (index k ∷ rest) }
-as_field (number hi lo) bs rest h e = let z : ◌≡◌ {A = ℕ} 0 1 = cc (at_shape (number hi lo) bs rest h e) in absurd (omega arith)
-as_field (two o a b) bs rest h e = let z : ◌≡◌ {A = ℕ} 0 1 = cc (at_shape (two o a b) bs rest h e) in absurd (omega arith)
-as_field (nought a) bs rest h e = let z : ◌≡◌ {A = ℕ} 0 1 = cc (at_shape (nought a) bs rest h e) in absurd (omega arith)
-as_field (choose a b c) bs rest h e = let z : ◌≡◌ {A = ℕ} 0 1 = cc (at_shape (choose a b c) bs rest h e) in absurd (omega arith)
+as_field (number hi lo) bs rest h e = cc (at_shape (number hi lo) bs rest h e)
+as_field (two o a b) bs rest h e = cc (at_shape (two o a b) bs rest h e)
+as_field (nought a) bs rest h e = cc (at_shape (nought a) bs rest h e)
+as_field (choose a b c) bs rest h e = cc (at_shape (choose a b c) bs rest h e)
 
 pub record ANumber (t : Expression) (bs rest : List ℕ) : Type 0 where
   pub hi : ℕ
@@ -128,10 +128,10 @@ pub record ANumber (t : Expression) (bs rest : List ℕ) : Type 0 where
 
 pub as_number : (t : Expression) (bs rest : List ℕ) → command (head bs) ≡ a_number → bs ≡ written t ++ rest → ANumber t bs rest
 as_number (number hi lo) bs rest h e = record { hi = hi; lo = lo; is = refl; after = ap tail e ∙ tail_cons 99 (hi ∷ lo ∷ rest) }
-as_number (field k) bs rest h e = let z : ◌≡◌ {A = ℕ} 0 1 = cc (at_shape (field k) bs rest h e) in absurd (omega arith)
-as_number (two o a b) bs rest h e = let z : ◌≡◌ {A = ℕ} 0 1 = cc (at_shape (two o a b) bs rest h e) in absurd (omega arith)
-as_number (nought a) bs rest h e = let z : ◌≡◌ {A = ℕ} 0 1 = cc (at_shape (nought a) bs rest h e) in absurd (omega arith)
-as_number (choose a b c) bs rest h e = let z : ◌≡◌ {A = ℕ} 0 1 = cc (at_shape (choose a b c) bs rest h e) in absurd (omega arith)
+as_number (field k) bs rest h e = cc (at_shape (field k) bs rest h e)
+as_number (two o a b) bs rest h e = cc (at_shape (two o a b) bs rest h e)
+as_number (nought a) bs rest h e = cc (at_shape (nought a) bs rest h e)
+as_number (choose a b c) bs rest h e = cc (at_shape (choose a b c) bs rest h e)
 
 pub record One (t : Expression) (bs rest : List ℕ) : Type 0 where
   pub a : Expression
@@ -140,10 +140,10 @@ pub record One (t : Expression) (bs rest : List ℕ) : Type 0 where
 
 pub as_one : (t : Expression) (bs rest : List ℕ) → command (head bs) ≡ a_nought → bs ≡ written t ++ rest → One t bs rest
 as_one (nought a) bs rest h e = record { a = a; is = refl; after = ap tail e ∙ tail_cons 33 (written a ++ rest) }
-as_one (field k) bs rest h e = let z : ◌≡◌ {A = ℕ} 0 1 = cc (at_shape (field k) bs rest h e) in absurd (omega arith)
-as_one (number hi lo) bs rest h e = let z : ◌≡◌ {A = ℕ} 0 1 = cc (at_shape (number hi lo) bs rest h e) in absurd (omega arith)
-as_one (two o a b) bs rest h e = let z : ◌≡◌ {A = ℕ} 0 1 = cc (at_shape (two o a b) bs rest h e) in absurd (omega arith)
-as_one (choose a b c) bs rest h e = let z : ◌≡◌ {A = ℕ} 0 1 = cc (at_shape (choose a b c) bs rest h e) in absurd (omega arith)
+as_one (field k) bs rest h e = cc (at_shape (field k) bs rest h e)
+as_one (number hi lo) bs rest h e = cc (at_shape (number hi lo) bs rest h e)
+as_one (two o a b) bs rest h e = cc (at_shape (two o a b) bs rest h e)
+as_one (choose a b c) bs rest h e = cc (at_shape (choose a b c) bs rest h e)
 
 pub record Two (o : Op) (t : Expression) (bs rest : List ℕ) : Type 0 where
   pub a : Expression
@@ -160,10 +160,10 @@ as_two o (two p a b) bs rest h e =
       is = ap (λ x. two x a b) q;
       after = ap tail e ∙ (tail_cons (sign p) ((written a ++ written b) ++ rest) ∙ append_assoc (written a) (written b) rest);
     }
-as_two o (field k) bs rest h e = let z : ◌≡◌ {A = ℕ} 0 1 = cc (at_shape (field k) bs rest h e) in absurd (omega arith)
-as_two o (number hi lo) bs rest h e = let z : ◌≡◌ {A = ℕ} 0 1 = cc (at_shape (number hi lo) bs rest h e) in absurd (omega arith)
-as_two o (nought a) bs rest h e = let z : ◌≡◌ {A = ℕ} 0 1 = cc (at_shape (nought a) bs rest h e) in absurd (omega arith)
-as_two o (choose a b c) bs rest h e = let z : ◌≡◌ {A = ℕ} 0 1 = cc (at_shape (choose a b c) bs rest h e) in absurd (omega arith)
+as_two o (field k) bs rest h e = cc (at_shape (field k) bs rest h e)
+as_two o (number hi lo) bs rest h e = cc (at_shape (number hi lo) bs rest h e)
+as_two o (nought a) bs rest h e = cc (at_shape (nought a) bs rest h e)
+as_two o (choose a b c) bs rest h e = cc (at_shape (choose a b c) bs rest h e)
 
 pub record Three (t : Expression) (bs rest : List ℕ) : Type 0 where
   pub a : Expression
@@ -175,10 +175,10 @@ pub record Three (t : Expression) (bs rest : List ℕ) : Type 0 where
 pub as_three : (t : Expression) (bs rest : List ℕ) → command (head bs) ≡ a_choose → bs ≡ written t ++ rest → Three t bs rest
 as_three (choose a b c) bs rest h e =
     record { a = a; b = b; c = c; is = refl; after = ap tail e ∙ (tail_cons 63 ((written a ++ (written b ++ written c)) ++ rest) ∙ simp append_assoc) }
-as_three (field k) bs rest h e = let z : ◌≡◌ {A = ℕ} 0 1 = cc (at_shape (field k) bs rest h e) in absurd (omega arith)
-as_three (number hi lo) bs rest h e = let z : ◌≡◌ {A = ℕ} 0 1 = cc (at_shape (number hi lo) bs rest h e) in absurd (omega arith)
-as_three (two o a b) bs rest h e = let z : ◌≡◌ {A = ℕ} 0 1 = cc (at_shape (two o a b) bs rest h e) in absurd (omega arith)
-as_three (nought a) bs rest h e = let z : ◌≡◌ {A = ℕ} 0 1 = cc (at_shape (nought a) bs rest h e) in absurd (omega arith)
+as_three (field k) bs rest h e = cc (at_shape (field k) bs rest h e)
+as_three (number hi lo) bs rest h e = cc (at_shape (number hi lo) bs rest h e)
+as_three (two o a b) bs rest h e = cc (at_shape (two o a b) bs rest h e)
+as_three (nought a) bs rest h e = cc (at_shape (nought a) bs rest h e)
 
 -- ---- what begins here, begins so at each operand
 
@@ -290,7 +290,7 @@ fair bs r =
     let s = at_shape r.tree bs r.rest refl r.is in
     record {
       some = omega (arith, longer bs (sym s) (shape_known r.tree));
-      knows = λ h. let z : ◌≡◌ {A = ℕ} 0 1 = cc (shape_known r.tree, ap known (s ∙ h)) in omega arith;
+      knows = λ h. cc (shape_known r.tree, ap known (s ∙ h));
       one = λ h. let p = as_field r.tree bs r.rest h r.is in omega (arith, ap length p.after);
       low = λ h. let p = as_field r.tree bs r.rest h r.is in omega (arith, ap head p.after, index_low p.k);
       both = λ h. let p = as_number r.tree bs r.rest h r.is in omega (arith, ap length p.after);

@@ -1,6 +1,7 @@
 -- The laws of questions that beliefs rest on.
 use Rattle.std.proofs.Common.{◌≡◌, ℕ, zero, suc, ◌+◌, ◌*◌, ◌/◌, ◌%◌, ◌<◌, ◌≤◌, Bool, true, false, cond, not, ◌&&◌, ◌||◌, eqb, ltb, nat_le, ◌⊎◌, List, [], ◌∷◌, ◌++◌, length, get_or, ℤ, pos, negsuc, is_some, Some, None, Option, sym, refl, ap, ◌∙◌, subst, inl, inr, add-one, arith, length-take, eq-eqb, eqb-true}
-use borrow.Author.Tests.{eqb-false}
+use Rattle.std.proofs.Math.Bool.{or-false}
+use Rattle.std.proofs.lemmas.Bool.{and_parts, or_left, or_right, or_cases, cases_eq, false_from_ne_true}
 use Rattle.std.proofs.ByRecursion.{All-append}
 use Rattle.std.proofs.lemmas.Bool.Decides.{nat_tests}
 use Rattle.std.specs.List.{AllByRecursion, list_all, range_with_len}
@@ -15,24 +16,13 @@ use Rattle.question.specs.Texts.{text}
 use Rattle.question.proofs.Stepping.{two_as}
 
 pub impossible : {A : Type 0} (b : Bool) → b ≡ false → b ≡ true → A
-impossible b p q = let z : ◌≡◌ {A = Bool} true false = sym q ∙ p in let f : ⊥ = grind arith in elim f [ ]
+impossible b p q = cc
 
 pub and_left : (a b : Bool) → (a && b) ≡ true → a ≡ true
-and_left true b e = refl
-and_left false b e = e
+and_left a b e = (and_parts a b e).0
 
 pub and_right : (a b : Bool) → (a && b) ≡ true → b ≡ true
-and_right true b e = e
-and_right false true e = refl
-and_right false false e = e
-
-or_left : (a b : Bool) → a ≡ true → (a || b) ≡ true
-or_left true b e = refl
-or_left false b e = impossible false refl e
-
-or_right : (a b : Bool) → b ≡ true → (a || b) ≡ true
-or_right true b e = refl
-or_right false b e = e
+and_right a b e = (and_parts a b e).1
 
 -- ---- what was read
 
@@ -51,7 +41,7 @@ asked_as q h = asked_by q (reading q) refl h
 
 read_by : (bs : List ℕ) {q : List ℕ} (r : Reply Expression) → given q ≡ mapped (λ e. bs) r → (q ≡ bs) × (read_or false (λ e. true) r ≡ true)
 read_by bs {q} (given e) h = (let z : q ≡ bs = cc in z, refl)
-read_by bs (declined n p) h = let z : ◌≡◌ {A = ℕ} 0 1 = cc in absurd (omega arith)
+read_by bs (declined n p) h = cc
 
 -- bytes that were read are the question's own
 pub read_text : (bs : List ℕ) {q : List ℕ} → given q ≡ mapped (λ e. bs) (reading bs) → q ≡ bs
@@ -66,7 +56,7 @@ read_as bs h = asked_as bs (read_asks bs h)
 
 -- bytes that were refused are so by their reading
 refused_by : (bs : List ℕ) {n : ℕ} {p : Option ℕ} (r : Reply Expression) → declined n p ≡ mapped (λ e. bs) r → r ≡ declined n p
-refused_by bs (given e) h = let z : ◌≡◌ {A = ℕ} 0 1 = cc in absurd (omega arith)
+refused_by bs (given e) h = cc
 refused_by bs {n} {p} (declined m q) h = let y : m ≡ n = cc in let z : q ≡ p = cc in rw (y, z)
 
 pub read_refused : (bs : List ℕ) {n : ℕ} {p : Option ℕ} → declined n p ≡ mapped (λ e. bs) (reading bs) → reading bs ≡ declined n p
@@ -110,10 +100,6 @@ unfolding answers reads_field
 answers_local q s t h = local_by (reading q) s t h
 
 -- ---- only fields 0 to 3 are read
-
-or_cases : (a b : Bool) → (a || b) ≡ true → (a ≡ true) ⊎ (b ≡ true)
-or_cases true b e = inl refl
-or_cases false b e = inr e
 
 index_four : (k : Field) → index k < 4
 index_four first = omega arith
@@ -175,18 +161,14 @@ reading_step zero v h l = let e : nat_le (v / 256 * 256 + v % 256) limit ≡ tru
 reading_step (suc zero) v h l = let e : nat_le (v / 256 * 256 + v % 256) limit ≡ true = grind (arith, nat_tests) in rw e
 reading_step (suc (suc zero)) v h l = let e : nat_le (v / 256 * 256 + v % 256) limit ≡ true = grind (arith, nat_tests) in rw e
 reading_step (suc (suc (suc zero))) v h l = let e : nat_le (v / 256 * 256 + v % 256) limit ≡ true = grind (arith, nat_tests) in rw e
-reading_step (suc (suc (suc (suc k)))) v h l = let f : ⊥ = omega arith in elim f [ ]
+reading_step (suc (suc (suc (suc k)))) v h l = absurd (omega arith)
 
 index_field : (k : ℕ) → k < 4 → index (field_of k) ≡ k
 index_field zero h = refl
 index_field (suc zero) h = refl
 index_field (suc (suc zero)) h = refl
 index_field (suc (suc (suc zero))) h = refl
-index_field (suc (suc (suc (suc k)))) h = let f : ⊥ = omega arith in elim f [ ]
-
-or_no : (b : Bool) → (b || false) ≡ b
-or_no true = refl
-or_no false = refl
+index_field (suc (suc (suc (suc k)))) h = absurd (omega arith)
 
 -- it reads its field only, and is its one step
 pub step_asks : (k v : ℕ) → k < 4 → v < 65536 → is_question (step k v) ≡ true
@@ -196,7 +178,7 @@ step_asks k v h l = ap (read_or false (λ e. true)) (reading_step k v h l)
 pub step_reads : (k v j : ℕ) → k < 4 → v < 65536 → reads_field (step k v) j ≡ eqb k j
 unfolding reads_field
 step_reads k v j h l =
-    ap (read_or false (mentions j)) (reading_step k v h l) ∙ (or_no (eqb (index (field_of k)) j) ∙ ap (λ i. eqb i j) (index_field k h))
+    ap (read_or false (mentions j)) (reading_step k v h l) ∙ (or-false (eqb (index (field_of k)) j) ∙ ap (λ i. eqb i j) (index_field k h))
 
 pub step_stepped : (k v : ℕ) → k < 4 → v < 65536 → is_stepped (step k v) ≡ true
 unfolding is_stepped
@@ -232,14 +214,11 @@ step_answers k v s h l =
 
 -- ---- fields of a span
 
-at_or : (n : ℕ) (p : ℕ → Bool) (k : ℕ) → p n ≡ true → (k < n → p k ≡ true) → k < suc n → (b : Bool) → eqb k n ≡ b → p k ≡ true
-at_or n p k e ih h true is = ap p (eqb-true k n is) ∙ e
-at_or n p k e ih h false is = let d = eqb-false k n is in ih (omega arith)
-
 pub below_at : (n : ℕ) (p : ℕ → Bool) (k : ℕ) → all_below n p ≡ true → k < n → p k ≡ true
 unfolding all_below
-below_at zero p k e h = let f : ⊥ = omega arith in elim f [ ]
-below_at (suc n) p k e h = at_or n p k (and_right _ _ e) (below_at n p k (and_left _ _ e)) h (eqb k n) refl
+below_at zero p k e h = absurd (omega arith)
+below_at (suc n) p k e h =
+    elim (cases_eq k n) [ inl s ↦ ap p s ∙ and_right _ _ e | inr z ↦ below_at n p k (and_left _ _ e) (omega arith) ]
 
 pub all_below_true : (n : ℕ) (p : ℕ → Bool) → ((k : ℕ) → k < n → p k ≡ true) → all_below n p ≡ true
 unfolding all_below
@@ -259,25 +238,12 @@ all_four p = by (p 0) (p 1) (p 2) (p 3)
     by : (a b c d : Bool) → a && (b && (c && (d && true))) ≡ ((a && b) && c) && d
     by a b c d = grind arith
 
-not-true : (b : Bool) → (b ≡ true → ⊥) → b ≡ false
-not-true true g = let z : ⊥ = g refl in elim z [ ]
-not-true false g = refl
-
 pub all_fails : (n : ℕ) (p : ℕ → Bool) (k : ℕ) → k < n → p k ≡ false → all_below n p ≡ false
-all_fails n p k l e = not-true (all_below n p) (λ a. impossible {A = ⊥} (p k) e (below_at n p k a l))
-
-pub unread : (a b : Bool) → a ≡ false → (not a || b) ≡ true
-unread a b e = ap (λ x. not x || b) e
-
-pub covered : (a b : Bool) → b ≡ true → (not a || b) ≡ true
-covered a b e = or_right (not a) b e
-
-pub uncovered : (a b : Bool) → a ≡ true → b ≡ false → (not a || b) ≡ false
-uncovered a b e f = ap (λ x. not x || b) e ∙ f
+all_fails n p k l e = false_from_ne_true (all_below n p) (λ a. impossible {A = ⊥} (p k) e (below_at n p k a l))
 
 implied : (a b : Bool) → a ≡ true → (not a || b) ≡ true → b ≡ true
 implied true b e h = h
-implied false b e h = impossible false refl e
+implied false b e h = cc
 
 implies : (a b : Bool) → (a ≡ true → b ≡ true) → (not a || b) ≡ true
 implies true b h = h refl
@@ -301,7 +267,7 @@ pub step_inside : (f c k v : ℕ) → k < 4 → v < 65536 → in_span f c k ≡ 
 step_inside f c k v h l e = inside_reads f c (step k v) (λ j r. ap (in_span f c) (sym (eqb-true k j (sym (step_reads k v j h l) ∙ r))) ∙ e)
 
 pub step_outside : (f c k v : ℕ) → k < 4 → v < 65536 → in_span f c k ≡ false → reads_in f c (step k v) ≡ false
-step_outside f c k v h l e = not-true (reads_in f c (step k v)) (λ r. impossible {A = ⊥} (in_span f c k) e (reads_inside f c (step k v) r k (step_reads k v k h l ∙ eq-eqb k k refl)))
+step_outside f c k v h l e = false_from_ne_true (reads_in f c (step k v)) (λ r. impossible {A = ⊥} (in_span f c k) e (reads_inside f c (step k v) r k (step_reads k v k h l ∙ eq-eqb k k refl)))
 
 -- ---- an answer to a stepped question depends on its steps
 
@@ -356,10 +322,10 @@ stepped_given q r = ap (λ v. cond (read_or false stepped v) (Some (read_or [] s
 
 own_some : (b : Bool) (ts : List Step) {us : List Step} → Some us ≡ cond b (Some ts) None → (b ≡ true) × (us ≡ ts)
 own_some true ts {us} e = (refl, let z : us ≡ ts = cc in z)
-own_some false ts e = let z : ◌≡◌ {A = ℕ} 0 1 = cc in absurd (omega arith)
+own_some false ts e = cc
 
 own_none : (b : Bool) (ts : List Step) → None ≡ cond b (Some ts) None → b ≡ false
-own_none true ts e = let z : ◌≡◌ {A = ℕ} 0 1 = cc in absurd (omega arith)
+own_none true ts e = cc
 own_none false ts e = refl
 
 -- with steps it is stepped, and they are its own; without it is not

@@ -1,5 +1,6 @@
 -- What the scan of slots does on the bytes of an expression.
 use Rattle.std.proofs.Common.{◌≡◌, ℕ, zero, suc, ◌<◌, ◌≤◌, Bool, true, false, eqb, ◌⊎◌, List, ◌∷◌, ◌++◌, length, get_or, Some, None, Ok, Err, Result, sym, refl, ap, ◌∙◌, subst, inl, inr, append_assoc, arith, length-append, Bor, eqb-true, MatchResult}
+use Rattle.std.proofs.lemmas.Bool.{cases_eq, ne_eqb}
 use Rattle.question.specs.Expressions.{Op, Field, first, second, third, fourth, index, Expression, field, number, two, nought, choose, written, sign}
 use Rattle.question.specs.Reading.{Command, a_field, a_number, a_two, a_nought, a_choose, unknown, command}
 use Rattle.question.specs.Fronts.{Slot, question, wants, stuck, Stuck, Reads, is_sign}
@@ -15,12 +16,8 @@ letter a_nought = 33
 letter a_choose = 63
 letter unknown = 0
 
-pub either : (b n : ℕ) (x : Bool) → eqb b n ≡ x → (b ≡ n) ⊎ (eqb b n ≡ false)
-either b n true e = inl (eqb-true b n e)
-either b n false e = inr e
-
 try : (b n : ℕ) {k : Command} → command b ≡ k → n ≡ letter (command n) → (eqb b n ≡ false → b ≡ letter k) → b ≡ letter k
-try b n h g f = elim (either b n (eqb b n) refl) [ inl e ↦ e ∙ (g ∙ ap letter (sym (ap command e) ∙ h)) | inr z ↦ f z ]
+try b n h g f = elim (cases_eq b n) [ inl e ↦ e ∙ (g ∙ ap letter (sym (ap command e) ∙ h)) | inr z ↦ f (ne_eqb b n z) ]
 
 pub spelt : (b : ℕ) (k : Command) → command b ≡ k → known k ≡ true → b ≡ letter k
 spelt b k h g =
@@ -36,13 +33,13 @@ spelt b k h g =
     try b 33 h refl (λ z9.
     try b 63 h refl (λ z10.
     let u : command b ≡ unknown = rw (z0, z1, z2, z3, z4, z5, z6, z7, z8, z9, z10) in
-    let z : ◌≡◌ {A = ℕ} 0 1 = cc (ap known (sym u ∙ h)) in absurd (omega arith))))))))))))
+    cc (ap known (sym u ∙ h)))))))))))))
 
 -- a byte with none of the other commands that is no sign either is no command
 pub no_command : (b : ℕ) (k : Command) → command b ≡ k → is_sign (command b) ≡ false → (b ≡ 102 → ⊥) → (b ≡ 99 → ⊥) → (b ≡ 33 → ⊥) → (b ≡ 63 → ⊥) → command b ≡ unknown
 no_command b a_field e s f n o c = absurd (f (spelt b a_field e refl))
 no_command b a_number e s f n o c = absurd (n (spelt b a_number e refl))
-no_command b (a_two p) e s f n o c = let z : ◌≡◌ {A = ℕ} 0 1 = cc (ap is_sign e) in absurd (omega arith)
+no_command b (a_two p) e s f n o c = cc (ap is_sign e)
 no_command b a_nought e s f n o c = absurd (o (spelt b a_nought e refl))
 no_command b a_choose e s f n o c = absurd (c (spelt b a_choose e refl))
 no_command b unknown e s f n o c = e
@@ -54,11 +51,11 @@ pub record Sign (b : ℕ) : Type 0 where
 
 sign_by : (b : ℕ) (k : Command) → command b ≡ k → is_sign k ≡ true → Sign b
 sign_by b (a_two o) e h = record { op = o; is = spelt b (a_two o) e refl }
-sign_by b a_field e h = let z : ◌≡◌ {A = ℕ} 0 1 = cc in absurd (omega arith)
-sign_by b a_number e h = let z : ◌≡◌ {A = ℕ} 0 1 = cc in absurd (omega arith)
-sign_by b a_nought e h = let z : ◌≡◌ {A = ℕ} 0 1 = cc in absurd (omega arith)
-sign_by b a_choose e h = let z : ◌≡◌ {A = ℕ} 0 1 = cc in absurd (omega arith)
-sign_by b unknown e h = let z : ◌≡◌ {A = ℕ} 0 1 = cc in absurd (omega arith)
+sign_by b a_field e h = cc
+sign_by b a_number e h = cc
+sign_by b a_nought e h = cc
+sign_by b a_choose e h = cc
+sign_by b unknown e h = cc
 
 -- by what takes_two says
 pub signed : (b : ℕ) {x : Bool} → x ≡ is_sign (command b) → x ≡ true → Sign b

@@ -14,8 +14,7 @@ pub unreachable-requires : goal.unreachable-requires
 unreachable-requires c =
     let a = held c.args.self.now in
     let p = c.in-Err.ensures.place a.tree [] (c.text.ensures ∙ a.is) 0 in
-    let z : ◌≡◌ {A = ℕ} 0 1 = cc (p, a.clear) in
-    omega arith
+    cc (p, a.clear)
 
 pub returns : goal.returns
 unfolding bound_of
