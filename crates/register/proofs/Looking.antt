@@ -1,75 +1,52 @@
 -- The definition of a search meets the law of looking.
-use Rattle.std.proofs.Common.{◌≡◌, ℕ, zero, suc, ◌<◌, List, [], ◌∷◌, length, get_or, set, IfSome, Some, None, Option, sym, refl, ap, ◌∙◌, ⊎_elim, arith, MatchOption}
+use Rattle.std.proofs.Common.{◌≡◌, ℕ, zero, suc, ◌<◌, List, [], ◌∷◌, length, get_or, set, IfSome, Some, None, Option, sym, refl, ap, ◌∙◌, subst, eqb, ⊎_elim, ◌≢◌, arith, MatchOption}
+use Rattle.std.specs.List.{AllWithin, HoldsAt}
 use Rattle.std.specs.Option.{option_map}
-use Rattle.std.proofs.lemmas.Bool.{cond-true, cond-false, eq-eqb, ne_eqb, cases_eq}
+use Rattle.std.proofs.lemmas.Bool.{cond-false, cond_both, eqb-true, eqb-false, ne_eqb, cases_eq, cases_order}
 use Rattle.std.proofs.lemmas.List.{length-set, get_or-set_same, get_or-set_other}
-use Rattle.register.specs.Places.{first, place, First, Absent, Sought, Distinct, Once}
+use Rattle.register.specs.Places.{first, place, Absent, Sought, Distinct, Once}
 
-more_some : (o : Option ℕ) (i : ℕ) → option_map suc o ≡ Some i → (j : ℕ) × (o ≡ Some j) × (i ≡ suc j)
-more_some (Some j) i h = (j, refl, cc)
-more_some None i h = let z : ◌≡◌ {A = ℕ} 0 1 = cc in absurd (omega arith)
-
-more_none : (o : Option ℕ) → option_map suc o ≡ None → o ≡ None
-more_none (Some j) h = cc
-more_none None h = refl
+-- what a search says that stops at the first place with the code
+abbrev pub Stops : {E : Type 0} → (E → ℕ) → ℕ → List E → Option ℕ → Type 0
+Stops key c xs r = MatchOption r (AllWithin (λ x. key x ≢ c) xs 0 (length xs)) (λ i. (i < length xs) × HoldsAt (λ x. key x ≡ c) xs i × AllWithin (λ x. key x ≢ c) xs 0 i)
 
 module _ {E : Type 0} (key : E → ℕ) (c : ℕ) where
-  -- the entry in front has the code, or has another
-  hit : (x : E) (xs : List E) → key x ≡ c → first key c (x ∷ xs) ≡ Some 0
-  hit x xs e = cond-true _ _ _ (eq-eqb (key x) c e)
-
-  miss : (x : E) (xs : List E) → (key x ≡ c → ⊥) → first key c (x ∷ xs) ≡ option_map suc (first key c xs)
-  miss x xs n = cond-false _ _ _ (ne_eqb (key x) c n)
-
-  front : (x : E) (xs : List E) → key x ≡ c → First key c (x ∷ xs) 0
-  front x xs e = record { within = omega arith; here = λ d. e; before = λ k d h e. absurd (omega arith) }
-
   -- not in front, and not before j in what is left
-  later : (x : E) (xs : List E) (j : ℕ) → (key x ≡ c → ⊥) → ((k : ℕ) (d : E) → k < j → key (get_or xs k d) ≡ c → ⊥) → (k : ℕ) (d : E) → k < suc j → key (get_or (x ∷ xs) k d) ≡ c → ⊥
-  later x xs j n f zero d h e = n e
-  later x xs j n f (suc k) d h e = f k d (omega arith) e
+  later : (x : E) (xs : List E) (j : ℕ) → key x ≢ c → AllWithin (λ y. key y ≢ c) xs 0 j → AllWithin (λ y. key y ≢ c) (x ∷ xs) 0 (suc j)
+  later x xs j n f zero d l h = n
+  later x xs j n f (suc k) d l h = f k d (omega arith) (omega arith)
 
-  some : (xs : List E) (i : ℕ) → first key c xs ≡ Some i → First key c xs i
-  some [] i h = let z : ◌≡◌ {A = ℕ} 0 1 = cc in absurd (omega arith)
-  some (x ∷ xs) i h =
-      ⊎_elim
-      (λ e. let z : i ≡ 0 = cc (hit x xs e) in rw z (front x xs e))
-      (λ n. let m = more_some (first key c xs) i (sym (miss x xs n) ∙ h) in
-      let f = some xs m.0 m.1 in
-      rw m.2 (record { within = (let w = f.within in omega arith); here = f.here; before = later x xs m.0 n f.before }))
-      (cases_eq (key x) c)
+  further : (x : E) (xs : List E) (r : Option ℕ) → key x ≢ c → Stops key c xs r → Stops key c (x ∷ xs) (option_map suc r)
+  further x xs (Some j) n f = (omega arith, f.1, later x xs j n f.2)
+  further x xs None n a = later x xs (length xs) n a
 
-  only : (xs : List E) (i : ℕ) → First key c xs i → first key c xs ≡ Some i
-  only [] i f = let w = f.within in absurd (omega arith)
-  only (x ∷ xs) zero f = hit x xs (f.here x)
-  only (x ∷ xs) (suc i) f =
-      miss x xs (f.before 0 x (omega arith))
-      ∙ ap (option_map suc) (only xs i (record { within = (let w = f.within in omega arith); here = f.here; before = λ k d h. f.before (suc k) d (omega arith) }))
+  -- the definition computes such a result, and there is no other
+  stops : (xs : List E) → Stops key c xs (first key c xs)
+  stops [] = λ k d l h. absurd (omega arith)
+  stops (x ∷ xs) =
+      cond_both (eqb (key x) c) _ _ (Stops key c (x ∷ xs)) (λ e. (omega arith, λ d. eqb-true _ _ e, λ k d l h. absurd (omega arith)))
+      (λ n. further x xs (first key c xs) (eqb-false _ _ n) (stops xs))
 
-  none : (xs : List E) → first key c xs ≡ None → (k : ℕ) (d : E) → k < length xs → key (get_or xs k d) ≡ c → ⊥
-  none [] h k d l = absurd (omega arith)
-  none (x ∷ xs) h k d l =
-      ⊎_elim
-      (λ e. let z : ◌≡◌ {A = ℕ} 0 1 = cc (hit x xs e) in absurd (omega arith))
-      (λ n. later x xs (length xs) n (none xs (more_none (first key c xs) (sym (miss x xs n) ∙ h))) k d l)
-      (cases_eq (key x) c)
+  same : (xs : List E) (r s : Option ℕ) → Stops key c xs r → Stops key c xs s → r ≡ s
+  same [] (Some i) s f g = absurd (omega arith)
+  same [] None (Some j) f g = absurd (omega arith)
+  same [] None None f g = refl
+  same (x ∷ xs) (Some i) (Some j) f g =
+      ⊎_elim (λ e. ap Some e) (⊎_elim (λ l. absurd (g.2 i x (omega arith) l (f.1 x))) (λ l. absurd (f.2 j x (omega arith) l (g.1 x)))) (cases_order i j)
+  same (x ∷ xs) (Some i) None f a = absurd (a i x (omega arith) f.0 (f.1 x))
+  same (x ∷ xs) None (Some j) a g = absurd (a j x (omega arith) g.0 (g.1 x))
+  same (x ∷ xs) None None a b = refl
 
-  missing : (xs : List E) → Absent key c xs → first key c xs ≡ None
-  missing [] a = refl
-  missing (x ∷ xs) a =
-      miss x xs (a.nowhere 0 x (omega arith))
-      ∙ ap (option_map suc) (missing xs (record { nowhere = λ k d h. a.nowhere (suc k) d (omega arith) }))
+  sought : (xs : List E) → Sought key c xs (first key c xs)
+  sought xs = record {
+    some = λ i h. let f = subst (Stops key c xs) h (stops xs) in record { within = f.0; here = f.1; before = λ k d. f.2 k d (omega arith) };
+    only = λ i f. same xs _ (Some i) (stops xs) (f.within, f.here, λ k d l. f.before k d);
+    none = λ h. record { nowhere = λ k d. subst (Stops key c xs) h (stops xs) k d (omega arith) };
+    missing = λ a. same xs _ None (stops xs) (λ k d l. a.nowhere k d);
+  }
 
-  pub sought : (xs : List E) → Sought key c xs (first key c xs)
-  sought xs = record { some = some xs; only = only xs; none = λ h. record { nowhere = none xs h }; missing = missing xs }
-
-  -- what the law says of a search is what the definition computes
-  pub computed : (xs : List E) (r : Option ℕ) → MatchOption r (Absent key c xs) (First key c xs) → r ≡ first key c xs
-  computed xs (Some i) f = sym (only xs i f)
-  computed xs None a = sym (missing xs a)
-
-  pub inside : (xs : List E) (r : Option ℕ) → MatchOption r (Absent key c xs) (First key c xs) → IfSome r (λ i. i < length xs)
-  inside xs (Some i) f = f.within
+  inside : (xs : List E) (r : Option ℕ) → Stops key c xs r → IfSome r (λ i. i < length xs)
+  inside xs (Some i) f = f.0
   inside xs None a = tt
 
 -- ---- each code stands once
@@ -102,5 +79,12 @@ module _ {E : Type 0} (key : E → ℕ) where
         (cases_eq i at);
   }
 
-  pub once : Once key
+  once : Once key
   once = record { free = λ xs f. record { once = λ i j d li lj q n. absurd (n (f i d li)) }; put = put_once }
+
+-- what a search promises that stops at the first place with the code
+pub found : {E : Type 0} (key : E → ℕ) (c : ℕ) (xs : List E) (r : Option ℕ) → Stops key c xs r →
+    record { found : r ≡ first key c xs; within : IfSome r (λ i. i < length xs); exact : Sought key c xs r; once : Once key }
+found key c xs r s =
+    let e = same key c xs r (first key c xs) s (stops key c xs) in
+    record { found = e; within = inside key c xs r s; exact = subst (Sought key c xs) (sym e) (sought key c xs); once = once key }

@@ -4,14 +4,15 @@
 // said in specs/Places.antt, once as a law and once by a definition. It rests on nothing.
 #![tactic(auto)]
 
-ghost use Rattle.std.specs.Prelude.{◌≡◌, ◌<◌, map, length, IfSome, MatchOption, slice_set};
-ghost use Rattle.register.specs.Places.{First, Absent, Sought, Looked, Once, first, place, vacant};
+ghost use Rattle.std.specs.Prelude.{◌≡◌, ◌<◌, map, length, IfSome, slice_set};
+ghost use Rattle.register.specs.Places.{Sought, Looked, Once, first, place, vacant};
 
 mod coded;
 
 pub use coded::Coded;
 
-// A register over the entries.
+// A register over the entries. That it stays over the list that was lent is a clause, `lent`, of what changes it: a type
+// says what holds of one value, and not of two. The field is public, since callers write to single entries in place.
 #[derive(Drop)]
 pub struct Register<'a, E> {
     pub entries: &'a mut [E],
@@ -19,12 +20,13 @@ pub struct Register<'a, E> {
 
 impl<'a, E: Coded> Register<'a, E> {
     // The register over the entries, each of them free.
+    #[tactic(auto, using(std::proofs::lemmas::List::Edits::map_over_more))]
     pub fn new(entries: &'a mut [E]) -> Self
         ensures freed { result.entries.now ≡ map (E.recoded 0) entries.old }
         ensures lent { result.entries.ghost_name ≡ entries.entry.ghost_name }
     {
-        for e in entries.iter_mut() {
-            free(e);
+        for entry in entries.iter_mut() {
+            entry.set_code(0);
         }
         Register { entries }
     }
@@ -59,37 +61,19 @@ impl<'a, E: Coded> Register<'a, E> {
         ensures after { self.new.entries.now ≡ slice_set self.old.entries.now at entry }
         ensures lent { self.new.entries.ghost_name ≡ self.old.entries.ghost_name }
     {
+        // not by `get_mut`: a proof knows nothing of the elements of a slice that was lent by it
         if at < self.entries.len() {
             self.entries[at] = entry;
         }
     }
 }
 
-// Frees an entry.
-fn free<E: Coded>(entry: &mut E)
-    ensures { entry.new ≡ E.recoded 0 entry.old }
-{
-    entry.set_code(0);
-}
-
-// The place of the first entry that has the code, by the definition.
+// The place of the first entry that has the code.
 fn find<E: Coded>(entries: &[E], code: u16) -> Option<usize>
     ensures found { result ≡ first E.key code entries.now }
     ensures within { IfSome result (λ i. i < length entries.now) }
     ensures exact { Sought E.key code entries.now result }
     ensures once { Once E.key }
 {
-    scan(entries, code)
-}
-
-// The place of the first entry that has the code, by the law.
-fn scan<E: Coded>(entries: &[E], code: u16) -> Option<usize>
-    ensures { MatchOption result (Absent E.key code entries.now) (First E.key code entries.now) }
-{
-    for (i, e) in entries.iter().enumerate() {
-        if e.code() == code {
-            return Some(i);
-        }
-    }
-    None
+    entries.iter().position(|entry| entry.code() == code)
 }

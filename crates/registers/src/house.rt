@@ -9,10 +9,11 @@ pub struct House {
     pub code: u16,
 }
 
+// By hand, as each kind's: an impl that a macro of the repository writes is refused.
 impl Coded for House {
     ghost key = { λ h. h.code };
 
-    ghost recoded = { λ c h. record { city = h.city; code = c } };
+    ghost recoded = { λ c h. record h { code = c } };
 
     ghost under = { Prim.search rules };
 

@@ -23,15 +23,11 @@ fn enter<E: Coded + Copy>(register: &mut Register<'_, E>, entry: E) -> Option<us
     ensures reply { result ≡ entered E.key entry register.old.entries.now }
     ensures after { register.new.entries.now ≡ leaves result entry register.old.entries.now }
 {
-    if entry.code() == 0 {
+    let code = entry.code();
+    if code == 0 || register.place(code).is_some() {
         return None;
     }
-    if let Some(_) = register.place(entry.code()) {
-        return None;
-    }
-    let Some(at) = register.free_place() else {
-        return None;
-    };
+    let at = register.free_place()?;
     register.put(at, entry);
     Some(at)
 }
@@ -69,8 +65,7 @@ fn houses(rt: &HostRuntime) -> io::Result<()> {
     register.put(3, House { city: 8, code: 8 });
     tell(rt, "house 8, put past the end", register.place(8))?;
     tell(rt, "free", register.free_place())?;
-    for house in list.iter() {
-        let House { city, code } = *house;
+    for House { city, code } in list {
         println!(rt; "city {city}, code {code}")?;
     }
     Ok(())
@@ -106,13 +101,13 @@ fn parcels(rt: &HostRuntime) -> io::Result<()> {
     )?;
     tell(rt, "parcel 65535", register.place(65535))?;
     tell(rt, "free", register.free_place())?;
-    let [
-        Parcel {
-            code,
-            holds: [first, second],
-        },
-    ] = list;
-    println!(rt; "code {code}, holds {first} and {second}")
+    for Parcel {
+        code,
+        holds: [first, second],
+    } in list {
+        println!(rt; "code {code}, holds {first} and {second}")?;
+    }
+    Ok(())
 }
 
 // Prints a place, or that there is none.

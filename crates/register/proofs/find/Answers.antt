@@ -1,16 +1,12 @@
-use Rattle.std.proofs.Common.{sym, subst}
-use Rattle.register.specs.Places.{Sought}
-use Rattle.register.proofs.Looking.{computed, inside, sought, once}
+use Rattle.std.proofs.Common.{◌≡◌, ◌≢◌, rules}
+use borrow.Author.Tests.{tests}
+use Rattle.std.proofs.lemmas.Iterator.{YieldsList-from_slice, IsFirst-from_position}
+use Rattle.register.proofs.Looking.{found}
 use Rattle.register.proofs.find.Goals as goal
 
 pub returns : goal.returns
 returns g c =
     let key = g.E.Coded.key in
     let xs = c.args.entries.now in
-    let e = computed key c.args.code xs c.scan.result c.scan.ensures in
-    record {
-      found = e;
-      within = inside key c.args.code xs c.scan.result c.scan.ensures;
-      exact = subst (Sought key c.args.code xs) (sym e) (sought key c.args.code xs);
-      once = once key;
-    }
+    found key c.args.code xs _ (IsFirst-from_position _ _ _ (λ x. key x ≡ c.args.code) (λ x. key x ≢ c.args.code) c.position.ensures.ran (YieldsList-from_slice xs cc)
+    (λ x q k. search (rules, tests)) (λ x q k. search (rules, tests)))
