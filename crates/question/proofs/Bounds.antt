@@ -1,5 +1,7 @@
 -- The bound of a command from those of its operands.
-use Rattle.std.proofs.Common.{◌≡◌, ℕ, ◌+◌, ◌-◌, ◌*◌, ◌<◌, ◌≤◌, max, List, [], ◌∷◌, ◌++◌, length, get_or, Some, sym, refl, ap, ◌∙◌, subst, arith, length-append}
+use Rattle.std.proofs.Common.{◌≡◌, ℕ, ◌+◌, ◌-◌, ◌*◌, ◌<◌, ◌≤◌, max, List, [], ◌∷◌, ◌++◌, length, get_or, Some, Result, Bor, sym, refl, ap, ◌∙◌, subst, arith, length-append}
+use Rattle.std.specs.Result.{IsErrAnd, MatchResult}
+use Rattle.std.proofs.lemmas.Result.{err_from_is_err_and}
 use Rattle.question.specs.Expressions.{limit, Op, Expression, two, nought, choose, written, bound, limited, Placed, stands, completed}
 use Rattle.question.specs.Reading.{command, a_field, a_number, a_two, a_nought, a_choose, first_over}
 use Rattle.question.specs.Fronts.{Begins, Each, Any, Bounded, Passes}
@@ -56,6 +58,10 @@ three_bounded bs {x} {y} {z} h w v u =
     })
 
 -- ---- an operand passes the limit
+
+-- where the bound of an operand has failed
+pub failed : (bs : List ℕ) {left : ℕ} (r : Result (ℕ × Bor (List ℕ)) ℕ) → IsErrAnd r (λ e. e ≡ left) → Passes bs left → MatchResult r (λ x. Each (Bounded x.0) bs x.1.now) (λ left. Passes bs left)
+failed bs r h s = let p = err_from_is_err_and r h in rw (p.1, p.2) s
 
 -- the place of an expression, as a property
 abbrev Over : ℕ → ℕ → Expression → Type 0

@@ -1,5 +1,7 @@
 -- What the scan of slots does on the bytes of an expression.
 use Rattle.std.proofs.Common.{◌≡◌, ℕ, zero, suc, ◌<◌, ◌≤◌, Bool, true, false, eqb, ◌⊎◌, List, ◌∷◌, ◌++◌, length, get_or, Some, None, Ok, Err, Result, sym, refl, ap, ◌∙◌, subst, inl, inr, append_assoc, arith, length-append, Bor, eqb-true, MatchResult}
+use Rattle.std.specs.Result.{IsErrAnd}
+use Rattle.std.proofs.lemmas.Result.{err_from_is_err_and}
 use Rattle.std.proofs.lemmas.Bool.{cases_eq, ne_eqb}
 use Rattle.question.specs.Expressions.{Op, Field, first, second, third, fourth, index, Expression, field, number, two, nought, choose, written, sign}
 use Rattle.question.specs.Reading.{Command, a_field, a_number, a_two, a_nought, a_choose, unknown, command}
@@ -99,6 +101,10 @@ shorter {bs} {rest} r = omega (arith, ap length r.is ∙ length-append (written 
 -- what the reader promises
 abbrev pub Read : List ℕ → Result (Bor (List ℕ)) ℕ → Type 0
 Read bs r = MatchResult r (λ rest. Reads bs rest.now) (λ left. Stuck bs left)
+
+-- where the reading of an operand has failed
+pub failed : (bs : List ℕ) {left : ℕ} (r : Result (Bor (List ℕ)) ℕ) → IsErrAnd r (λ e. e ≡ left) → Stuck bs left → Read bs r
+failed bs r h s = let p = err_from_is_err_and r h in rw (p.1, p.2) s
 
 pub one_last : (bs : List ℕ) (r : Result (Bor (List ℕ)) ℕ) → Read bs r → Read (33 ∷ bs) r
 one_last bs (Ok rest) h = record { tree = nought h.tree; is = ap (λ x. 33 ∷ x) h.is }

@@ -1,12 +1,11 @@
 -- What `bound` leaves to show.
 use Rattle.std.proofs.Common.{◌≡◌, ◌+◌, ◌*◌, ◌<◌, ◌≤◌, max, length, get_or, sym, refl, ap, ◌∙◌, subst, arith, rules}
-use Rattle.std.proofs.lemmas.Result.{err_from_is_err_and}
 use Rattle.question.specs.Expressions.{limit, limited}
 use Rattle.question.specs.Reading.{command}
 use Rattle.question.specs.Fronts.{Any, Each, Bounded, op_in, is_sign}
 use Rattle.question.proofs.Operands.{head, tail, tail2, longer, fair, drops, begins_one, begins_two, begins_two_2, begins_three, begins_three_2, begins_three_3}
 use Rattle.question.proofs.Scan.{signed, signs, no_command}
-use Rattle.question.proofs.Bounds.{low, field_bounded, number_bounded, one_bounded, two_bounded, three_bounded, pass_one, pass_two, pass_two_2, pass_here, pass_three, pass_three_2, pass_three_3}
+use Rattle.question.proofs.Bounds.{failed, low, field_bounded, number_bounded, one_bounded, two_bounded, three_bounded, pass_one, pass_two, pass_two_2, pass_here, pass_three, pass_three_2, pass_three_3}
 use Rattle.question.proofs.walks.+bound.Goals as goal
 use Rattle.question.proofs.walks.+bound.Goals.{then-y-z, else-y-z}
 
@@ -24,8 +23,7 @@ bound-requires t c =
 
 pub returns-in_err-rest-in-33 : goal.returns-in_err-rest-in-33
 returns-in_err-rest-in-33 t c =
-    let p = err_from_is_err_and c.from_residual.result c.from_residual.ensures.1 in
-    rw (p.1, p.2) (pass_one c.args.bytes.now (ap command c.in-33.is) c.in_err-rest-in-33.ensures)
+    failed c.args.bytes.now c.from_residual.result c.from_residual.ensures.1 (pass_one c.args.bytes.now (ap command c.in-33.is) c.in_err-rest-in-33.ensures)
 
 pub bound-requires-in-63 : goal.bound-requires-in-63
 bound-requires-in-63 t c =
@@ -35,10 +33,9 @@ bound-requires-in-63 t c =
 
 pub returns-in_err-rest-in-63 : goal.returns-in_err-rest-in-63
 returns-in_err-rest-in-63 t c =
-    let p = err_from_is_err_and c.from_residual-in_err-rest-in-63.result c.from_residual-in_err-rest-in-63.ensures.1 in
     let bs = c.args.bytes.now in
     let q = ap command c.in-63.is in
-    rw (p.1, p.2) (pass_three bs q c.in_err-rest-in-63.ensures)
+    failed c.args.bytes.now c.from_residual-in_err-rest-in-63.result c.from_residual-in_err-rest-in-63.ensures.1 (pass_three bs q c.in_err-rest-in-63.ensures)
 
 pub bound-requires-in-63-2 : goal.bound-requires-in-63-2
 bound-requires-in-63-2 t c =
@@ -50,11 +47,10 @@ bound-requires-in-63-2 t c =
 
 pub returns-in_err-y-in-63 : goal.returns-in_err-y-in-63
 returns-in_err-y-in-63 t c =
-    let p = err_from_is_err_and c.from_residual-in_err-y-in-63.result c.from_residual-in_err-y-in-63.ensures.1 in
     let bs = c.args.bytes.now in
     let q = ap command c.in-63.is in
     let w = c.in_ok-rest-in-63.ensures in
-    rw (p.1, p.2) (pass_three_2 bs q w (drops {P = Any} (tail bs) (begins_three bs q c.requires (λ a b c h. tt)) w) c.in_err-y-in-63.ensures)
+    failed c.args.bytes.now c.from_residual-in_err-y-in-63.result c.from_residual-in_err-y-in-63.ensures.1 (pass_three_2 bs q w (drops {P = Any} (tail bs) (begins_three bs q c.requires (λ a b c h. tt)) w) c.in_err-y-in-63.ensures)
 
 pub bound-requires-in-63-3 : goal.bound-requires-in-63-3
 bound-requires-in-63-3 t c =
@@ -68,14 +64,13 @@ bound-requires-in-63-3 t c =
 
 pub returns-in_err-z-in-63 : goal.returns-in_err-z-in-63
 returns-in_err-z-in-63 t c =
-    let p = err_from_is_err_and c.from_residual-in_err-z-in-63.result c.from_residual-in_err-z-in-63.ensures.1 in
     let bs = c.args.bytes.now in
     let q = ap command c.in-63.is in
     let w = c.in_ok-rest-in-63.ensures in
     let v = c.in_ok-y-in-63.ensures in
     let d = drops {P = Any} (tail bs) (begins_three bs q c.requires (λ a b c h. tt)) w in
     let e = drops {P = Any} _ (begins_three_2 bs q c.requires w (λ a b c h. tt)) v in
-    rw (p.1, p.2) (pass_three_3 bs q w v (omega (arith, d, e)) c.in_err-z-in-63.ensures)
+    failed c.args.bytes.now c.from_residual-in_err-z-in-63.result c.from_residual-in_err-z-in-63.ensures.1 (pass_three_3 bs q w v (omega (arith, d, e)) c.in_err-z-in-63.ensures)
 
 pub bound-requires-in_default-command : goal.bound-requires-in_default-command
 bound-requires-in_default-command t c =
@@ -85,10 +80,9 @@ bound-requires-in_default-command t c =
 
 pub returns-in_err-x-in_default-command : goal.returns-in_err-x-in_default-command
 returns-in_err-x-in_default-command t c =
-    let p = err_from_is_err_and c.from_residual-in_err-x-in_default-command.result c.from_residual-in_err-x-in_default-command.ensures.1 in
     let bs = c.args.bytes.now in
     let s = signs (signed (head bs) c.takes_two.ensures c.if-takes_two.true) in
-    rw (p.1, p.2) (pass_two s.0 bs s.1 c.in_err-x-in_default-command.ensures)
+    failed c.args.bytes.now c.from_residual-in_err-x-in_default-command.result c.from_residual-in_err-x-in_default-command.ensures.1 (pass_two s.0 bs s.1 c.in_err-x-in_default-command.ensures)
 
 pub bound-requires-in_default-command-2 : goal.bound-requires-in_default-command-2
 bound-requires-in_default-command-2 t c =
@@ -100,11 +94,10 @@ bound-requires-in_default-command-2 t c =
 
 pub returns-in_err-y-in_default-command : goal.returns-in_err-y-in_default-command
 returns-in_err-y-in_default-command t c =
-    let p = err_from_is_err_and c.from_residual-in_err-y-in_default-command.result c.from_residual-in_err-y-in_default-command.ensures.1 in
     let bs = c.args.bytes.now in
     let s = signs (signed (head bs) c.takes_two.ensures c.if-takes_two.true) in
     let w = c.in_ok-x-in_default-command.ensures in
-    rw (p.1, p.2) (pass_two_2 s.0 bs s.1 w (drops {P = Any} (tail bs) (begins_two s.0 bs s.1 c.requires (λ a b h. tt)) w) c.in_err-y-in_default-command.ensures)
+    failed c.args.bytes.now c.from_residual-in_err-y-in_default-command.result c.from_residual-in_err-y-in_default-command.ensures.1 (pass_two_2 s.0 bs s.1 w (drops {P = Any} (tail bs) (begins_two s.0 bs s.1 c.requires (λ a b h. tt)) w) c.in_err-y-in_default-command.ensures)
 
 pub bound_by-n-requires : goal.bound_by-n-requires
 bound_by-n-requires t c =

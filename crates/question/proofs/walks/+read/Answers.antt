@@ -1,18 +1,16 @@
 -- What `read` leaves to show.
 use Rattle.std.proofs.Common.{refl, ap, arith, rules}
-use Rattle.std.proofs.lemmas.Result.{err_from_is_err_and}
 use Rattle.question.specs.Reading.{command}
 use Rattle.question.specs.Fronts.{Stuck}
 use Rattle.question.proofs.Operands.{head, tail, longer}
-use Rattle.question.proofs.Scan.{Read, signed, signs, opens, opens_sign, one_last, two_first, two_last, three_first, three_second, three_last, field_reads, number_reads, shorter}
+use Rattle.question.proofs.Scan.{failed, Read, signed, signs, opens, opens_sign, one_last, two_first, two_last, three_first, three_second, three_last, field_reads, number_reads, shorter}
 use Rattle.question.proofs.walks.+read.Goals as goal
 
 pub returns-in_err-read-in-63 : goal.returns-in_err-read-in-63
 returns-in_err-read-in-63 t c =
-    let p = err_from_is_err_and c.from_residual.result c.from_residual.ensures.1 in
     let bs = c.args.bytes.now in
     let left = c.in_err-read-in-63.field-0.0 in
-    rw (p.1, p.2) (opens (λ x. Stuck x left) bs 63 c.in-63.is refl refl (three_first (tail bs) c.in_err-read-in-63.ensures))
+    failed c.args.bytes.now c.from_residual.result c.from_residual.ensures.1 (opens (λ x. Stuck x left) bs 63 c.in-63.is refl refl (three_first (tail bs) c.in_err-read-in-63.ensures))
 
 pub read-requires-in-63-2 : goal.read-requires-in-63-2
 read-requires-in-63-2 t c =
@@ -21,10 +19,9 @@ read-requires-in-63-2 t c =
 
 pub returns-in_err-read-in-63-2 : goal.returns-in_err-read-in-63-2
 returns-in_err-read-in-63-2 t c =
-    let p = err_from_is_err_and c.from_residual-in_err-read-in-63-2.result c.from_residual-in_err-read-in-63-2.ensures.1 in
     let bs = c.args.bytes.now in
     let left = c.in_err-read-in-63-2.field-0.0 in
-    rw (p.1, p.2) (opens (λ x. Stuck x left) bs 63 c.in-63.is refl refl (three_second (tail bs) c.in_ok-read-in-63.field-0.now c.in_ok-read-in-63.ensures c.in_err-read-in-63-2.ensures))
+    failed c.args.bytes.now c.from_residual-in_err-read-in-63-2.result c.from_residual-in_err-read-in-63-2.ensures.1 (opens (λ x. Stuck x left) bs 63 c.in-63.is refl refl (three_second (tail bs) c.in_ok-read-in-63.field-0.now c.in_ok-read-in-63.ensures c.in_err-read-in-63-2.ensures))
 
 pub read-requires-in-63-3 : goal.read-requires-in-63-3
 read-requires-in-63-3 t c =
@@ -34,11 +31,10 @@ read-requires-in-63-3 t c =
 
 pub returns-in_err-read-in_default-command : goal.returns-in_err-read-in_default-command
 returns-in_err-read-in_default-command t c =
-    let p = err_from_is_err_and c.from_residual-in_err-read-in_default-command.result c.from_residual-in_err-read-in_default-command.ensures.1 in
     let bs = c.args.bytes.now in
     let left = c.in_err-read-in_default-command.field-0.0 in
     let s = signed (head c.args.bytes.now) c.takes_two.ensures c.if-takes_two.true in
-    rw (p.1, p.2) (opens_sign (λ x. Stuck x left) bs s (two_first s.op (tail bs) c.in_err-read-in_default-command.ensures))
+    failed c.args.bytes.now c.from_residual-in_err-read-in_default-command.result c.from_residual-in_err-read-in_default-command.ensures.1 (opens_sign (λ x. Stuck x left) bs s (two_first s.op (tail bs) c.in_err-read-in_default-command.ensures))
 
 pub read-requires-in_default-command-2 : goal.read-requires-in_default-command-2
 read-requires-in_default-command-2 t c =
