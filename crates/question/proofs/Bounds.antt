@@ -68,13 +68,13 @@ abbrev Over : ℕ → ℕ → Expression → Type 0
 Over q p t = first_over (completed p t) ≡ Some q
 
 -- an operand of t that stands at r1, of which the place is the place of t
-record Operand (t : Expression) (bs r1 : List ℕ) : Type 0 where
+record Inner (t : Expression) (bs r1 : List ℕ) : Type 0 where
   u : Expression
   next : List ℕ
   is : r1 ≡ written u ++ next
   leads : (p q : ℕ) → Over q (p + (length bs - length r1)) u → Over q p t
 
-pass_on : (bs r1 : List ℕ) {left : ℕ} → length r1 ≤ length bs → ((t : Expression) (rest : List ℕ) → bs ≡ written t ++ rest → Operand t bs r1) → Passes r1 left → Passes bs left
+pass_on : (bs r1 : List ℕ) {left : ℕ} → length r1 ≤ length bs → ((t : Expression) (rest : List ℕ) → bs ≡ written t ++ rest → Inner t bs r1) → Passes r1 left → Passes bs left
 pass_on bs r1 {left} l f w =
     record {
       place = λ t rest e p.
@@ -116,7 +116,7 @@ pass_first bs n f w =
           ap first_over (k.is p) ∙ first_some (completed (p + 1) k.a) _ (moved k.a m g);
     }) w
 
-pass_second : (bs : List ℕ) {x : ℕ} {r1 : List ℕ} {left : ℕ} → length bs ≡ length (tail bs) + 1 → ((t : Expression) (rest : List ℕ) → bs ≡ written t ++ rest → Followed t bs) → Each (Bounded x) (tail bs) r1 → length r1 ≤ length (tail bs) → Passes r1 left → Passes bs left
+pass_second : (bs : List ℕ) {x : ℕ} {r1 : List ℕ} {left : ℕ} → length bs ≡ length (tail bs) + 1 → ((t : Expression) (rest : List ℕ) → bs ≡ written t ++ rest → Followed t bs) → Each (Bounded x) (tail bs) r1 → length r1 < length bs → Passes r1 left → Passes bs left
 pass_second bs {x} {r1} n f v d w =
     pass_on bs r1 (omega arith) (λ t rest e.
     let k = f t rest e in
@@ -165,7 +165,7 @@ pass_one bs h w = pass_first bs (longer bs h refl) (one_led bs h) w
 pub pass_two : (o : Op) (bs : List ℕ) {left : ℕ} → command (head bs) ≡ a_two o → Passes (tail bs) left → Passes bs left
 pass_two o bs h w = pass_first bs (longer bs h refl) (λ t rest e. led (two_followed o bs h t rest e)) w
 
-pub pass_two_2 : (o : Op) (bs : List ℕ) {x : ℕ} {r1 : List ℕ} {left : ℕ} → command (head bs) ≡ a_two o → Each (Bounded x) (tail bs) r1 → length r1 ≤ length (tail bs) → Passes r1 left → Passes bs left
+pub pass_two_2 : (o : Op) (bs : List ℕ) {x : ℕ} {r1 : List ℕ} {left : ℕ} → command (head bs) ≡ a_two o → Each (Bounded x) (tail bs) r1 → length r1 < length bs → Passes r1 left → Passes bs left
 pass_two_2 o bs h v d w = pass_second bs (longer bs h refl) (two_followed o bs h) v d w
 
 pub pass_here : (o : Op) (bs : List ℕ) {x y : ℕ} {r1 r2 : List ℕ} → command (head bs) ≡ a_two o → Each (Bounded x) (tail bs) r1 → Each (Bounded y) r1 r2 → limit < limited o x y → Passes bs (length bs)
@@ -188,10 +188,10 @@ pass_here o bs {x} {y} h w v l =
 pub pass_three : (bs : List ℕ) {left : ℕ} → command (head bs) ≡ a_choose → Passes (tail bs) left → Passes bs left
 pass_three bs h w = pass_first bs (longer bs h refl) (λ t rest e. led (three_followed bs h t rest e)) w
 
-pub pass_three_2 : (bs : List ℕ) {x : ℕ} {r1 : List ℕ} {left : ℕ} → command (head bs) ≡ a_choose → Each (Bounded x) (tail bs) r1 → length r1 ≤ length (tail bs) → Passes r1 left → Passes bs left
+pub pass_three_2 : (bs : List ℕ) {x : ℕ} {r1 : List ℕ} {left : ℕ} → command (head bs) ≡ a_choose → Each (Bounded x) (tail bs) r1 → length r1 < length bs → Passes r1 left → Passes bs left
 pass_three_2 bs h v d w = pass_second bs (longer bs h refl) (three_followed bs h) v d w
 
-pub pass_three_3 : (bs : List ℕ) {x y : ℕ} {r1 r2 : List ℕ} {left : ℕ} → command (head bs) ≡ a_choose → Each (Bounded x) (tail bs) r1 → Each (Bounded y) r1 r2 → length r2 ≤ length (tail bs) → Passes r2 left → Passes bs left
+pub pass_three_3 : (bs : List ℕ) {x y : ℕ} {r1 r2 : List ℕ} {left : ℕ} → command (head bs) ≡ a_choose → Each (Bounded x) (tail bs) r1 → Each (Bounded y) r1 r2 → length r2 < length bs → Passes r2 left → Passes bs left
 pass_three_3 bs {x} {y} {r1} {r2} h v u d w =
     let n = longer bs h refl in
     pass_on bs r2 (omega arith) (λ t rest e.

@@ -1,5 +1,5 @@
 -- The expression at the front of some bytes, by its command.
-use Rattle.std.proofs.Common.{◌≡◌, ℕ, suc, ◌+◌, ◌-◌, ◌≤◌, Bool, true, false, eqb, List, [], ◌∷◌, ◌++◌, length, get_or, take, drop, sym, refl, ap, ◌∙◌, subst, append_assoc, arith, length-append, take_all}
+use Rattle.std.proofs.Common.{◌≡◌, ℕ, suc, ◌+◌, ◌-◌, ◌<◌, ◌≤◌, Bool, true, false, eqb, List, [], ◌∷◌, ◌++◌, length, get_or, take, drop, sym, refl, ap, ◌∙◌, subst, append_assoc, arith, length-append, take_all}
 use Rattle.question.specs.Expressions.{Op, plus, minus, times, less, equal, and, or, Field, first, second, third, fourth, index, Expression, field, number, two, nought, choose, written, sign}
 use Rattle.question.specs.Reading.{Command, a_field, a_number, a_two, a_nought, a_choose, unknown, command}
 use Rattle.question.specs.Fronts.{Begins, Each}
@@ -182,40 +182,61 @@ as_three (nought a) bs rest h e = cc (at_shape (nought a) bs rest h e)
 
 -- ---- what begins here, begins so at each operand
 
-pub begins_one : {P Q : Expression → Type 0} (bs : List ℕ) → command (head bs) ≡ a_nought → Begins P bs → ((a : Expression) → P (nought a) → Q a) → Begins Q (tail bs)
-begins_one {P} bs h r f =
+-- the bytes of an operand: fewer than those of the whole
+pub record Operand (P : Expression → Type 0) (bs next : List ℕ) : Type 0 where
+  pub begins : Begins P next
+  pub fewer : length next < length bs
+
+pub operand_one : {P Q : Expression → Type 0} (bs : List ℕ) → command (head bs) ≡ a_nought → Begins P bs → ((a : Expression) → P (nought a) → Q a) → Operand Q bs (tail bs)
+operand_one {P} bs h r f =
     let p = as_one r.tree bs r.rest h r.is in
-    record { tree = p.a; rest = r.rest; is = p.after; has = f p.a (subst P p.is r.has) }
+    record { begins = record { tree = p.a; rest = r.rest; is = p.after; has = f p.a (subst P p.is r.has) }; fewer = omega (arith, longer bs h refl) }
 
-pub begins_two : {P Q : Expression → Type 0} (o : Op) (bs : List ℕ) → command (head bs) ≡ a_two o → Begins P bs → ((a b : Expression) → P (two o a b) → Q a) → Begins Q (tail bs)
-begins_two {P} o bs h r f =
+pub operand_two : {P Q : Expression → Type 0} (o : Op) (bs : List ℕ) → command (head bs) ≡ a_two o → Begins P bs → ((a b : Expression) → P (two o a b) → Q a) → Operand Q bs (tail bs)
+operand_two {P} o bs h r f =
     let p = as_two o r.tree bs r.rest h r.is in
-    record { tree = p.a; rest = written p.b ++ r.rest; is = p.after; has = f p.a p.b (subst P p.is r.has) }
+    record {
+      begins = record { tree = p.a; rest = written p.b ++ r.rest; is = p.after; has = f p.a p.b (subst P p.is r.has) };
+      fewer = omega (arith, longer bs h refl);
+    }
 
-pub begins_two_2 : {P Q R : Expression → Type 0} (o : Op) (bs : List ℕ) {r1 : List ℕ} → command (head bs) ≡ a_two o → Begins P bs → Each R (tail bs) r1 → ((a b : Expression) → P (two o a b) → Q b) → Begins Q r1
-begins_two_2 {P} o bs h r w f =
+pub operand_two_2 : {P Q R : Expression → Type 0} (o : Op) (bs : List ℕ) {r1 : List ℕ} → command (head bs) ≡ a_two o → Begins P bs → Each R (tail bs) r1 → ((a b : Expression) → P (two o a b) → Q b) → Operand Q bs r1
+operand_two_2 {P} o bs h r w f =
     let p = as_two o r.tree bs r.rest h r.is in
-    record { tree = p.b; rest = r.rest; is = w.behind p.a (written p.b ++ r.rest) p.after; has = f p.a p.b (subst P p.is r.has) }
+    let q = w.behind p.a (written p.b ++ r.rest) p.after in
+    record {
+      begins = record { tree = p.b; rest = r.rest; is = q; has = f p.a p.b (subst P p.is r.has) };
+      fewer = omega (arith, longer bs h refl, ap length q, ap length p.after ∙ length-append (written p.a) (written p.b ++ r.rest));
+    }
 
-pub begins_three : {P Q : Expression → Type 0} (bs : List ℕ) → command (head bs) ≡ a_choose → Begins P bs → ((a b c : Expression) → P (choose a b c) → Q a) → Begins Q (tail bs)
-begins_three {P} bs h r f =
+pub operand_three : {P Q : Expression → Type 0} (bs : List ℕ) → command (head bs) ≡ a_choose → Begins P bs → ((a b c : Expression) → P (choose a b c) → Q a) → Operand Q bs (tail bs)
+operand_three {P} bs h r f =
     let p = as_three r.tree bs r.rest h r.is in
-    record { tree = p.a; rest = written p.b ++ (written p.c ++ r.rest); is = p.after; has = f p.a p.b p.c (subst P p.is r.has) }
+    record {
+      begins = record { tree = p.a; rest = written p.b ++ (written p.c ++ r.rest); is = p.after; has = f p.a p.b p.c (subst P p.is r.has) };
+      fewer = omega (arith, longer bs h refl);
+    }
 
-pub begins_three_2 : {P Q R : Expression → Type 0} (bs : List ℕ) {r1 : List ℕ} → command (head bs) ≡ a_choose → Begins P bs → Each R (tail bs) r1 → ((a b c : Expression) → P (choose a b c) → Q b) → Begins Q r1
-begins_three_2 {P} bs h r w f =
+pub operand_three_2 : {P Q R : Expression → Type 0} (bs : List ℕ) {r1 : List ℕ} → command (head bs) ≡ a_choose → Begins P bs → Each R (tail bs) r1 → ((a b c : Expression) → P (choose a b c) → Q b) → Operand Q bs r1
+operand_three_2 {P} bs h r w f =
     let p = as_three r.tree bs r.rest h r.is in
-    record { tree = p.b; rest = written p.c ++ r.rest; is = w.behind p.a (written p.b ++ (written p.c ++ r.rest)) p.after; has = f p.a p.b p.c (subst P p.is r.has) }
+    let rest = written p.b ++ (written p.c ++ r.rest) in
+    let q = w.behind p.a rest p.after in
+    record {
+      begins = record { tree = p.b; rest = written p.c ++ r.rest; is = q; has = f p.a p.b p.c (subst P p.is r.has) };
+      fewer = omega (arith, longer bs h refl, ap length q, ap length p.after ∙ length-append (written p.a) rest);
+    }
 
-pub begins_three_3 : {P Q R S : Expression → Type 0} (bs : List ℕ) {r1 r2 : List ℕ} → command (head bs) ≡ a_choose → Begins P bs → Each R (tail bs) r1 → Each S r1 r2 → ((a b c : Expression) → P (choose a b c) → Q c) → Begins Q r2
-begins_three_3 {P} bs h r w v f =
+pub operand_three_3 : {P Q R S : Expression → Type 0} (bs : List ℕ) {r1 r2 : List ℕ} → command (head bs) ≡ a_choose → Begins P bs → Each R (tail bs) r1 → Each S r1 r2 → ((a b c : Expression) → P (choose a b c) → Q c) → Operand Q bs r2
+operand_three_3 {P} bs h r w v f =
     let p = as_three r.tree bs r.rest h r.is in
-    let q = w.behind p.a (written p.b ++ (written p.c ++ r.rest)) p.after in
-    record { tree = p.c; rest = r.rest; is = v.behind p.b (written p.c ++ r.rest) q; has = f p.a p.b p.c (subst P p.is r.has) }
-
--- what follows is no longer
-pub drops : {P Q : Expression → Type 0} (bs : List ℕ) {next : List ℕ} → Begins P bs → Each Q bs next → length next ≤ length bs
-drops bs r w = omega (arith, ap length (w.behind r.tree r.rest r.is), ap length r.is ∙ length-append (written r.tree) r.rest)
+    let last = written p.c ++ r.rest in
+    let rest = written p.b ++ last in
+    let q = v.behind p.b last (w.behind p.a rest p.after) in
+    record {
+      begins = record { tree = p.c; rest = r.rest; is = q; has = f p.a p.b p.c (subst P p.is r.has) };
+      fewer = omega (arith, longer bs h refl, ap length q, ap length p.after ∙ length-append (written p.a) rest, length-append (written p.b) last);
+    }
 
 -- ---- what each operand has makes what the whole has
 

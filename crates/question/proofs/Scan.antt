@@ -63,8 +63,8 @@ sign_by b unknown e h = cc
 pub signed : (b : ℕ) {x : Bool} → x ≡ is_sign (command b) → x ≡ true → Sign b
 signed b e h = sign_by b (command b) refl (sym e ∙ h)
 
-pub signs : {b : ℕ} → Sign b → (o : Op) × (command b ≡ a_two o)
-signs s = (s.op, ap command s.is ∙ of_sign s.op)
+pub signs : (b : ℕ) {x : Bool} → x ≡ is_sign (command b) → x ≡ true → (o : Op) × (command b ≡ a_two o)
+signs b e h = let s = signed b e h in (s.op, ap command s.is ∙ of_sign s.op)
 
 pub two_slots : (o : Op) (ss : List Slot) (bs : List ℕ) → stuck (question ∷ ss) (sign o ∷ bs) ≡ stuck (question ∷ question ∷ ss) bs
 two_slots o ss bs = ap (λ k. (elim (wants k) [ None ↦ Some (length (sign o ∷ bs)) | Some new ↦ stuck (new ++ ss) bs ])) (of_sign o)

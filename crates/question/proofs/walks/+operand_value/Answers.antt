@@ -4,8 +4,8 @@ use Rattle.std.proofs.lemmas.Int.{to_z-of_z}
 use Rattle.question.specs.Expressions.{applied, truth, is_zero}
 use Rattle.question.specs.Reading.{command}
 use Rattle.question.specs.Fronts.{Small, op_in, is_sign}
-use Rattle.question.proofs.Operands.{head, tail, longer, fair, drops, begins_one, begins_two, begins_two_2, begins_three, begins_three_2, begins_three_3}
-use Rattle.question.proofs.Scan.{signed, signs, no_command}
+use Rattle.question.proofs.Operands.{head, tail, fair, operand_one, operand_two, operand_two_2, operand_three, operand_three_2, operand_three_3}
+use Rattle.question.proofs.Scan.{signs, no_command}
 use Rattle.question.proofs.Values.{ranged, fits64, truth_bit, zero_bits, one_worth, two_worth, three_worth}
 use Rattle.question.proofs.walks.+operand_value.Goals as goal
 
@@ -18,27 +18,27 @@ value-unreachable-requires t c =
 pub value-operand-x-requires : goal.value-operand-x-requires
 value-operand-x-requires t c =
     let bs = c.args.bytes.now in
-    let s = signs (signed (head bs) c.takes_two.ensures c.if-takes_two.true) in
-    (omega (arith, longer bs s.1 refl, c.decreases), begins_two {Q = Small} s.0 bs s.1 c.requires (λ a b h. h.0))
+    let s = signs (head bs) c.takes_two.ensures c.if-takes_two.true in
+    let n = operand_two {Q = Small} s.0 bs s.1 c.requires (λ a b h. h.0) in
+    (omega arith, n.begins)
 
 pub value-operand-y-requires : goal.value-operand-y-requires
 value-operand-y-requires t c =
     let bs = c.args.bytes.now in
-    let s = signs (signed (head bs) c.takes_two.ensures c.if-takes_two.true) in
-    let w = c.operand-x.ensures in
-    let d = drops (tail bs) (begins_two {Q = Small} s.0 bs s.1 c.requires (λ a b h. h.0)) w in
-    (omega (arith, d, longer bs s.1 refl, c.decreases), begins_two_2 {Q = Small} s.0 bs s.1 c.requires w (λ a b h. h.1))
+    let s = signs (head bs) c.takes_two.ensures c.if-takes_two.true in
+    let n = operand_two_2 {Q = Small} s.0 bs s.1 c.requires c.operand-x.ensures (λ a b h. h.1) in
+    (omega arith, n.begins)
 
 pub value-apply-requires : goal.value-apply-requires
 value-apply-requires t c =
     let bs = c.args.bytes.now in
-    let s = signs (signed (head bs) c.takes_two.ensures c.if-takes_two.true) in
+    let s = signs (head bs) c.takes_two.ensures c.if-takes_two.true in
     let w = c.operand-x.ensures in
     let X = c.operand-x.result.0 in
     let Y = c.operand-y.result.0 in
     let f : (k : ℕ) → get_or c.args.sheet k 0 ≤ 255 = search rules in
-    let x = ranged (tail bs) c.args.sheet f (begins_two {Q = Small} s.0 bs s.1 c.requires (λ a b h. h.0)) w in
-    let y = ranged _ c.args.sheet f (begins_two_2 {Q = Small} s.0 bs s.1 c.requires w (λ a b h. h.1)) c.operand-y.ensures in
+    let x = ranged (tail bs) c.args.sheet f (operand_two {Q = Small} s.0 bs s.1 c.requires (λ a b h. h.0)).begins w in
+    let y = ranged _ c.args.sheet f (operand_two_2 {Q = Small} s.0 bs s.1 c.requires w (λ a b h. h.1)).begins c.operand-y.ensures in
     let xf = fits64 X (omega (arith, x)) in
     let yf = fits64 Y (omega (arith, y)) in
     record { signs = ap is_sign s.1; small = rw (to_z-of_z w64 X xf, to_z-of_z w64 Y yf) (record { first = x; second = y }) }
@@ -46,13 +46,13 @@ value-apply-requires t c =
 pub value-returns-then-takes_two : goal.value-returns-then-takes_two
 value-returns-then-takes_two t c =
     let bs = c.args.bytes.now in
-    let s = signs (signed (head bs) c.takes_two.ensures c.if-takes_two.true) in
+    let s = signs (head bs) c.takes_two.ensures c.if-takes_two.true in
     let w = c.operand-x.ensures in
     let X = c.operand-x.result.0 in
     let Y = c.operand-y.result.0 in
     let f : (k : ℕ) → get_or c.args.sheet k 0 ≤ 255 = search rules in
-    let x = ranged (tail bs) c.args.sheet f (begins_two {Q = Small} s.0 bs s.1 c.requires (λ a b h. h.0)) w in
-    let y = ranged _ c.args.sheet f (begins_two_2 {Q = Small} s.0 bs s.1 c.requires w (λ a b h. h.1)) c.operand-y.ensures in
+    let x = ranged (tail bs) c.args.sheet f (operand_two {Q = Small} s.0 bs s.1 c.requires (λ a b h. h.0)).begins w in
+    let y = ranged _ c.args.sheet f (operand_two_2 {Q = Small} s.0 bs s.1 c.requires w (λ a b h. h.1)).begins c.operand-y.ensures in
     let xf = fits64 X (omega (arith, x)) in
     let yf = fits64 Y (omega (arith, y)) in
     let z : SFits w64 c.apply.result = search rules in
@@ -63,33 +63,23 @@ value-returns-then-takes_two t c =
 
 pub value-operand-x-requires-in-33 : goal.value-operand-x-requires-in-33
 value-operand-x-requires-in-33 t c =
-    let bs = c.args.bytes.now in
-    let q = ap command c.in-33.is in
-    (omega (arith, longer bs q refl, c.decreases), begins_one {Q = Small} bs q c.requires (λ a h. h))
+    let n = operand_one {Q = Small} c.args.bytes.now (ap command c.in-33.is) c.requires (λ a h. h) in
+    (omega arith, n.begins)
 
 pub value-operand-x-requires-in-63 : goal.value-operand-x-requires-in-63
 value-operand-x-requires-in-63 t c =
-    let bs = c.args.bytes.now in
-    let q = ap command c.in-63.is in
-    (omega (arith, longer bs q refl, c.decreases), begins_three {Q = Small} bs q c.requires (λ a b c h. h.0))
+    let n = operand_three {Q = Small} c.args.bytes.now (ap command c.in-63.is) c.requires (λ a b c h. h.0) in
+    (omega arith, n.begins)
 
 pub value-operand-y-requires-in-63 : goal.value-operand-y-requires-in-63
 value-operand-y-requires-in-63 t c =
-    let bs = c.args.bytes.now in
-    let q = ap command c.in-63.is in
-    let w = c.operand-x-in-63.ensures in
-    let d = drops (tail bs) (begins_three {Q = Small} bs q c.requires (λ a b c h. h.0)) w in
-    (omega (arith, d, longer bs q refl, c.decreases), begins_three_2 {Q = Small} bs q c.requires w (λ a b c h. h.1))
+    let n = operand_three_2 {Q = Small} c.args.bytes.now (ap command c.in-63.is) c.requires c.operand-x-in-63.ensures (λ a b c h. h.1) in
+    (omega arith, n.begins)
 
 pub value-operand-z-requires : goal.value-operand-z-requires
 value-operand-z-requires t c =
-    let bs = c.args.bytes.now in
-    let q = ap command c.in-63.is in
-    let w = c.operand-x-in-63.ensures in
-    let v = c.operand-y-in-63.ensures in
-    let d = drops (tail bs) (begins_three {Q = Small} bs q c.requires (λ a b c h. h.0)) w in
-    let e = drops _ (begins_three_2 {Q = Small} bs q c.requires w (λ a b c h. h.1)) v in
-    (omega (arith, d, e, longer bs q refl, c.decreases), begins_three_3 {Q = Small} bs q c.requires w v (λ a b c h. h.2))
+    let n = operand_three_3 {Q = Small} c.args.bytes.now (ap command c.in-63.is) c.requires c.operand-x-in-63.ensures c.operand-y-in-63.ensures (λ a b c h. h.2) in
+    (omega arith, n.begins)
 
 pub value-unreachable-requires-in_default-command : goal.value-unreachable-requires-in_default-command
 value-unreachable-requires-in_default-command t c =
@@ -102,7 +92,7 @@ value-returns-in-33 t c =
     let q = ap command c.in-33.is in
     let f : (k : ℕ) → get_or c.args.sheet k 0 ≤ 255 = search rules in
     let X = c.operand-x-in-33.result.0 in
-    let x = ranged (tail bs) c.args.sheet f (begins_one {Q = Small} bs q c.requires (λ a h. h)) c.operand-x-in-33.ensures in
+    let x = ranged (tail bs) c.args.sheet f (operand_one {Q = Small} bs q c.requires (λ a h. h)).begins c.operand-x-in-33.ensures in
     let z : SFits w64 c.from.result = search rules in
     let e : c.from.result ≡ truth (is_zero X) = c.from.ensures ∙ (truth_bit _ ∙ ap truth (zero_bits X x)) in
     rw (to_z-of_z w64 c.from.result z, e) (one_worth bs c.args.sheet q c.operand-x-in-33.ensures)
@@ -117,9 +107,9 @@ value-returns-in-63 t c =
     let X = c.operand-x-in-63.result.0 in
     let Y = c.operand-y-in-63.result.0 in
     let Z = c.operand-z.result.0 in
-    let x = fits64 X (omega (arith, ranged (tail bs) c.args.sheet f (begins_three {Q = Small} bs q c.requires (λ a b c h. h.0)) w)) in
-    let y = fits64 Y (omega (arith, ranged _ c.args.sheet f (begins_three_2 {Q = Small} bs q c.requires w (λ a b c h. h.1)) v)) in
-    let z = fits64 Z (omega (arith, ranged _ c.args.sheet f (begins_three_3 {Q = Small} bs q c.requires w v (λ a b c h. h.2)) c.operand-z.ensures)) in
+    let x = fits64 X (omega (arith, ranged (tail bs) c.args.sheet f (operand_three {Q = Small} bs q c.requires (λ a b c h. h.0)).begins w)) in
+    let y = fits64 Y (omega (arith, ranged _ c.args.sheet f (operand_three_2 {Q = Small} bs q c.requires w (λ a b c h. h.1)).begins v)) in
+    let z = fits64 Z (omega (arith, ranged _ c.args.sheet f (operand_three_3 {Q = Small} bs q c.requires w v (λ a b c h. h.2)).begins c.operand-z.ensures)) in
     let g : SFits w64 c.pick.result = search rules in
     let E = c.pick.ensures in
     let e : c.pick.result ≡ cond (is_zero X) Z Y = rw (to_z-of_z w64 X x, to_z-of_z w64 Y y, to_z-of_z w64 Z z) at E in

@@ -39,7 +39,7 @@ returns-in_err-read-in_default-command t c =
 pub read-requires-in_default-command-2 : goal.read-requires-in_default-command-2
 read-requires-in_default-command-2 t c =
     let s = shorter c.in_ok-read-in_default-command.ensures in
-    (omega (arith, s, longer c.args.bytes.now (signs (signed (head c.args.bytes.now) c.takes_two.ensures c.if-takes_two.true)).1 refl, c.decreases), tt)
+    (omega (arith, s, longer c.args.bytes.now (signs (head c.args.bytes.now) c.takes_two.ensures c.if-takes_two.true).1 refl, c.decreases), tt)
 
 pub returns-in-len1-up-rest : goal.returns-in-len1-up-rest
 returns-in-len1-up-rest t c = field_reads c.args.bytes.now c.in-f.is (search rules) c.if-k-le3.true
