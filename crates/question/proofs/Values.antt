@@ -1,6 +1,6 @@
 -- No value passes its bound, and within the limit a number fits 64 bits.
-use Rattle.std.proofs.Common.{◌≡◌, ℕ, zero, suc, ◌+◌, ◌*◌, ◌≤◌, max, Bool, true, false, cond, not, ◌&&◌, ◌||◌, eqb, List, get_or, ℤ, pos, negsuc, ◌+ℤ◌, ◌-ℤ◌, ◌*ℤ◌, neg_ℤ, nat_abs, sym, refl, ap, ◌∙◌, subst, mul-le-mul, arith, w64, SFits, of_z}
-use Rattle.std.proofs.lemmas.Int.{ints}
+use Rattle.std.proofs.Common.{◌≡◌, ℕ, zero, suc, ◌+◌, ◌*◌, ◌≤◌, max, Bool, true, false, cond, not, ◌&&◌, ◌||◌, eqb, List, get_or, ℤ, pos, negsuc, ◌+ℤ◌, ◌-ℤ◌, ◌*ℤ◌, neg_ℤ, nat_abs, sym, refl, ap, ◌∙◌, subst, mul-le-mul, arith, w64, SFits, to_z, of_z}
+use Rattle.std.proofs.lemmas.Int.{ints, to_z-of_z}
 use Rattle.std.specs.Int.{from_bool}
 use lib.Signed.{lt_z}
 use Rattle.question.specs.Expressions.{limit, Op, plus, minus, times, less, equal, and, or, index, Expression, field, number, two, nought, choose, truth, is_zero, same, applied, worth, bound}
@@ -53,13 +53,19 @@ small_bound (two o a b) h = h.2
 small_bound (nought a) h = omega arith
 small_bound (choose a b c) h = omega (arith, small_bound b h.1, small_bound c h.2)
 
--- the value of an expression that is small lies within the limit
-pub ranged : (bs s : List ℕ) {x : ℤ} {next : List ℕ} → ((k : ℕ) → get_or s k 0 ≤ 255) → Begins Small bs → Each (Worth s x) bs next → nat_abs x ≤ limit
-ranged bs s f r w =
-    subst (λ v. nat_abs v ≤ limit) (sym (w.has r.tree r.rest r.is)) (omega (arith, within r.tree s f, small_bound r.tree r.has))
-
 pub fits64 : (z : ℤ) → nat_abs z ≤ limit * limit → SFits w64 z
 fits64 z h = omega (arith, ints)
+
+-- a number within the limit, which 64 bits hold as it is
+pub record Ranged (x : ℤ) : Type 0 where
+  pub within : nat_abs x ≤ limit
+  pub exact : to_z w64 (of_z w64 x) ≡ x
+
+-- so is the value of an expression that is small
+pub ranged : (bs s : List ℕ) {x : ℤ} {next : List ℕ} → ((k : ℕ) → get_or s k 0 ≤ 255) → Begins Small bs → Each (Worth s x) bs next → Ranged x
+ranged bs s {x} f r w =
+    let h : nat_abs x ≤ limit = subst (λ v. nat_abs v ≤ limit) (sym (w.has r.tree r.rest r.is)) (omega (arith, within r.tree s f, small_bound r.tree r.has)) in
+    record { within = h; exact = to_z-of_z w64 x (fits64 x (omega arith)) }
 
 pub times_fits : (x y : ℤ) → nat_abs x ≤ limit → nat_abs y ≤ limit → SFits w64 (x *ℤ y)
 times_fits x y h k = fits64 (x *ℤ y) (omega (arith, abs_times x y, mul-le-mul h k))

@@ -34,14 +34,10 @@ value-apply-requires t c =
     let bs = c.args.bytes.now in
     let s = signs (head bs) c.takes_two.ensures c.if-takes_two.true in
     let w = c.operand-x.ensures in
-    let X = c.operand-x.result.0 in
-    let Y = c.operand-y.result.0 in
     let f : (k : ℕ) → get_or c.args.sheet k 0 ≤ 255 = search rules in
     let x = ranged (tail bs) c.args.sheet f (operand_two {Q = Small} s.0 bs s.1 c.requires (λ a b h. h.0)).begins w in
     let y = ranged _ c.args.sheet f (operand_two_2 {Q = Small} s.0 bs s.1 c.requires w (λ a b h. h.1)).begins c.operand-y.ensures in
-    let xf = fits64 X (omega (arith, x)) in
-    let yf = fits64 Y (omega (arith, y)) in
-    record { signs = ap is_sign s.1; small = rw (to_z-of_z w64 X xf, to_z-of_z w64 Y yf) (record { first = x; second = y }) }
+    record { signs = ap is_sign s.1; small = rw (x.exact, y.exact) (record { first = x.within; second = y.within }) }
 
 pub value-returns-then-takes_two : goal.value-returns-then-takes_two
 value-returns-then-takes_two t c =
@@ -53,11 +49,9 @@ value-returns-then-takes_two t c =
     let f : (k : ℕ) → get_or c.args.sheet k 0 ≤ 255 = search rules in
     let x = ranged (tail bs) c.args.sheet f (operand_two {Q = Small} s.0 bs s.1 c.requires (λ a b h. h.0)).begins w in
     let y = ranged _ c.args.sheet f (operand_two_2 {Q = Small} s.0 bs s.1 c.requires w (λ a b h. h.1)).begins c.operand-y.ensures in
-    let xf = fits64 X (omega (arith, x)) in
-    let yf = fits64 Y (omega (arith, y)) in
     let z : SFits w64 c.apply.result = search rules in
     let E = c.apply.ensures in
-    let e : c.apply.result ≡ applied (op_in (command (head bs))) X Y = rw (to_z-of_z w64 X xf, to_z-of_z w64 Y yf) at E in
+    let e : c.apply.result ≡ applied (op_in (command (head bs))) X Y = rw (x.exact, y.exact) at E in
     let g = e ∙ ap (λ k. applied (op_in k) X Y) s.1 in
     rw (to_z-of_z w64 c.apply.result z, g) (two_worth s.0 bs c.args.sheet s.1 w c.operand-y.ensures)
 
@@ -94,7 +88,7 @@ value-returns-in-33 t c =
     let X = c.operand-x-in-33.result.0 in
     let x = ranged (tail bs) c.args.sheet f (operand_one {Q = Small} bs q c.requires (λ a h. h)).begins c.operand-x-in-33.ensures in
     let z : SFits w64 c.from.result = search rules in
-    let e : c.from.result ≡ truth (is_zero X) = c.from.ensures ∙ (truth_bit _ ∙ ap truth (zero_bits X x)) in
+    let e : c.from.result ≡ truth (is_zero X) = c.from.ensures ∙ (truth_bit _ ∙ ap truth (zero_bits X x.within)) in
     rw (to_z-of_z w64 c.from.result z, e) (one_worth bs c.args.sheet q c.operand-x-in-33.ensures)
 
 pub value-returns-in-63 : goal.value-returns-in-63
@@ -107,10 +101,10 @@ value-returns-in-63 t c =
     let X = c.operand-x-in-63.result.0 in
     let Y = c.operand-y-in-63.result.0 in
     let Z = c.operand-z.result.0 in
-    let x = fits64 X (omega (arith, ranged (tail bs) c.args.sheet f (operand_three {Q = Small} bs q c.requires (λ a b c h. h.0)).begins w)) in
-    let y = fits64 Y (omega (arith, ranged _ c.args.sheet f (operand_three_2 {Q = Small} bs q c.requires w (λ a b c h. h.1)).begins v)) in
-    let z = fits64 Z (omega (arith, ranged _ c.args.sheet f (operand_three_3 {Q = Small} bs q c.requires w v (λ a b c h. h.2)).begins c.operand-z.ensures)) in
+    let x = ranged (tail bs) c.args.sheet f (operand_three {Q = Small} bs q c.requires (λ a b c h. h.0)).begins w in
+    let y = ranged _ c.args.sheet f (operand_three_2 {Q = Small} bs q c.requires w (λ a b c h. h.1)).begins v in
+    let z = ranged _ c.args.sheet f (operand_three_3 {Q = Small} bs q c.requires w v (λ a b c h. h.2)).begins c.operand-z.ensures in
     let g : SFits w64 c.pick.result = search rules in
     let E = c.pick.ensures in
-    let e : c.pick.result ≡ cond (is_zero X) Z Y = rw (to_z-of_z w64 X x, to_z-of_z w64 Y y, to_z-of_z w64 Z z) at E in
+    let e : c.pick.result ≡ cond (is_zero X) Z Y = rw (x.exact, y.exact, z.exact) at E in
     rw (to_z-of_z w64 c.pick.result g, e) (three_worth bs c.args.sheet q w v c.operand-z.ensures)
