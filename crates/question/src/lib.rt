@@ -2,7 +2,8 @@
 // bound in it past LIMIT. This crate reads any bytes as a question or says why and where they are none, and gives a
 // question's bound, its value and its answer on a sheet, the fields that it reads, and its steps. It promises that each of
 // these is what the grammar in specs/Expressions.antt says of the one expression that the bytes write, over the integers,
-// and that a refusal and its place are those of specs/Laws.antt. It rests on the crate refusal.
+// and that a refusal and its place are those of specs/Laws.antt. It rests on the crate refusal. For the crates above it
+// also tells which fields lie in a span, and fills an array from a list.
 #![tactic(auto)]
 
 mod checked;

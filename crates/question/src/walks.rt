@@ -60,7 +60,7 @@ pub(crate) fn bound(bytes: &[u8]) -> Result<(u64, &[u8]), usize>
             let (_, rest) = bound(rest)?;
             let (y, rest) = bound(rest)?;
             let (z, rest) = bound(rest)?;
-            Ok((if y < z { z } else { y }, rest))
+            Ok((y.max(z), rest))
         }
         _ if takes_two(command) => {
             let (x, rest) = bound(rest)?;

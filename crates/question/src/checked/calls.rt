@@ -38,7 +38,7 @@ impl Question {
     pub fn text(&self) -> &[u8]
         ensures { result.now ≡ text self.now }
     {
-        &self.bytes[0..self.len]
+        &self.bytes[..self.len]
     }
 
     // The bound of the whole.

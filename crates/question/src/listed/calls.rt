@@ -11,7 +11,7 @@ impl Steps {
     pub fn as_slice(&self) -> &[Step]
         ensures { result.now ≡ taken self.now }
     {
-        &self.list[0..self.len]
+        &self.list[..self.len]
     }
 
     // No steps.

@@ -7,7 +7,6 @@ use Rattle.question.proofs.Operands.{head, tail, tail2, fair, operand_one, opera
 use Rattle.question.proofs.Scan.{signs, no_command}
 use Rattle.question.proofs.Bounds.{failed, low, field_bounded, number_bounded, one_bounded, two_bounded, three_bounded, pass_one, pass_two, pass_two_2, pass_here, pass_three, pass_three_2, pass_three_3}
 use Rattle.question.proofs.walks.+bound.Goals as goal
-use Rattle.question.proofs.walks.+bound.Goals.{then-y-z, else-y-z}
 
 pub unreachable-requires : goal.unreachable-requires
 unreachable-requires t c =
@@ -137,11 +136,10 @@ pub returns-in_ok-rest-in-33 : goal.returns-in_ok-rest-in-33
 returns-in_ok-rest-in-33 t c =
     one_bounded c.args.bytes.now (ap command c.in-33.is) c.in_ok-rest-in-33.ensures
 
-pub returns-after-y-z : goal.returns-after-y-z
-returns-after-y-z t c =
+pub returns-in_ok-z-in-63 : goal.returns-in_ok-z-in-63
+returns-in_ok-z-in-63 t c =
     let bs = c.args.bytes.now in
-    let e : c.if-y-z.result ≡ max c.in_ok-y-in-63.y c.in_ok-z-in-63.z = elim c.if-y-z.branch [ then-y-z w ↦ omega (arith, w.result-is, w.if-y-z.true) | else-y-z w ↦ omega (arith, w.result-is, w.if-y-z.false) ] in
-    subst (λ n. Each (Bounded n) bs c.in_ok-z-in-63.rest.now) (sym e) (three_bounded bs (ap command c.in-63.is) c.in_ok-rest-in-63.ensures c.in_ok-y-in-63.ensures c.in_ok-z-in-63.ensures)
+    subst (λ n. Each (Bounded n) bs c.in_ok-z-in-63.rest.now) (sym c.max.ensures) (three_bounded bs (ap command c.in-63.is) c.in_ok-rest-in-63.ensures c.in_ok-y-in-63.ensures c.in_ok-z-in-63.ensures)
 
 pub returns-else-n-gt-LIMIT : goal.returns-else-n-gt-LIMIT
 returns-else-n-gt-LIMIT t c =
