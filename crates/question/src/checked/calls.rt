@@ -35,6 +35,7 @@ impl Question {
     }
 
     // Its bytes.
+    #[tactic(auto, unfolding(crate::specs::Texts::text))]
     pub fn text(&self) -> &[u8]
         ensures { result.now ≡ text self.now }
     {
@@ -61,6 +62,7 @@ impl Question {
     }
 
     // The answer that a sheet gives.
+    #[tactic(auto, using(crate::proofs::Questions::answers_value))]
     pub fn answer(&self, sheet: [u8; 4]) -> u8
         ensures { result ≡ answers (text self.now) sheet }
     {
@@ -68,6 +70,7 @@ impl Question {
     }
 
     // Whether field k is read.
+    #[tactic(auto, using(crate::proofs::Asked::scan_held))]
     pub fn reads(&self, k: u8) -> bool
         ensures { result ≡ reads_field (text self.now) k }
     {
@@ -90,6 +93,7 @@ impl Question {
     }
 
     // Its steps, if every field that is read belongs to one.
+    #[tactic(auto, using(crate::proofs::Questions::text_fits, crate::proofs::Asked::walk_held))]
     pub fn steps(&self) -> Option<Steps>
         ensures { seen taken result ≡ stepped_as (text self.now) }
     {

@@ -10,9 +10,6 @@ use Rattle.question.proofs.checked.calls.check.Goals as goal
 pub returns-then-bytes-gt-LONGEST : goal.returns-then-bytes-gt-LONGEST
 returns-then-bytes-gt-LONGEST c = sym (ap (mapped (λ t. tt)) (reading_long c.args.bytes.now c.if-bytes-gt-LONGEST.true))
 
-pub overflow_sub-result-in-Ok : goal.overflow_sub-result-in-Ok
-overflow_sub-result-in-Ok c = omega (arith, shorter c.in-Ok.ensures)
-
 pub overflow_sub-result-in-Err : goal.overflow_sub-result-in-Err
 overflow_sub-result-in-Err c = left_least (question ∷ []) c.args.bytes.now c.in-Err.left (c.in-Err.ensures.whatever [])
 
