@@ -36,20 +36,3 @@ scan_written k (choose a b c) rest =
 
 pub scan_whole : (k : ℕ) (t : Expression) → scan k (written t ++ []) ≡ mentions k t
 scan_whole k t = scan_written k t [] ∙ or-false (mentions k t)
-
--- ---- as the code takes bytes apart
-
-pub at_field : (k : ℕ) (bs : List ℕ) → head bs ≡ 102 → 1 ≤ length (tail bs) → scan k bs ≡ eqb (head (tail bs)) k || scan k (tail (tail bs))
-at_field k bs e l = ap (scan k) (front_is bs 102 e refl refl ∙ ap (λ x. 102 ∷ x) (opened (tail bs) l)) ∙ scan_field k (head (tail bs)) (tail (tail bs))
-
-pub at_number : (k : ℕ) (bs : List ℕ) → head bs ≡ 99 → 2 ≤ length (tail bs) → scan k bs ≡ scan k (tail2 (tail bs))
-at_number k bs e l = ap (scan k) (front_is bs 99 e refl refl ∙ ap (λ x. 99 ∷ x) (opened2 (tail bs) l))
-
-pub at_other : (k : ℕ) (bs : List ℕ) → 1 ≤ length bs → (head bs ≡ 102 → ⊥) → (head bs ≡ 99 → ⊥) → scan k bs ≡ scan k (tail bs)
-at_other k bs l f n = ap (scan k) (opened bs l) ∙ scan_other k (head bs) (tail bs) (ne_eqb (head bs) 102 f) (ne_eqb (head bs) 99 n)
-
-pub hit : (j k : ℕ) (x : Bool) → j ≡ k → eqb j k ≡ eqb j k || x
-hit j k x e = rw (eq-eqb j k e)
-
-pub miss : (j k : ℕ) (x : Bool) → (j ≡ k → ⊥) → x ≡ eqb j k || x
-miss j k x h = rw (ne_eqb j k h)

@@ -134,11 +134,3 @@ pub after_step : (bs : List ℕ) {t : Step} (ts : List Step) {us : List Step} �
 after_step bs {t} ts e f =
     let r = walk 0 (take (length bs - 6) (drop 6 bs)) in
     ap (λ x. prefixed x r) f ∙ (prefixed_more ts (t ∷ []) r ∙ ap (prefixed ts) (sym (past_step bs e)))
-
-pub after_number : (bs : List ℕ) → None ≡ front_step bs → head bs ≡ 99 → 2 ≤ length (tail bs) → walk 0 bs ≡ walk 0 (tail2 (tail bs))
-after_number bs n e l = ap (walk 0) (front_is bs 99 e refl refl ∙ ap (λ x. 99 ∷ x) (opened2 (tail bs) l))
-
-pub after_other : (bs : List ℕ) → None ≡ front_step bs → 1 ≤ length bs → (head bs ≡ 102 → ⊥) → (head bs ≡ 99 → ⊥) → walk 0 bs ≡ walk 0 (tail bs)
-after_other [] n l f g = absurd (omega arith)
-after_other (b ∷ bs) n l f g =
-    ap (on b bs) (sym n) ∙ (rw (ne_eqb b 102 f, ne_eqb b 99 g) (ap (walk 0) (sym (tail_cons b bs))))

@@ -92,10 +92,6 @@ some (two o a b) = omega arith
 some (nought a) = omega arith
 some (choose a b c) = omega arith
 
--- an expression takes at least one byte
-pub shorter : {bs rest : List ℕ} → Reads bs rest → length rest < length bs
-shorter {bs} {rest} r = omega (arith, ap length r.is ∙ length-append (written r.tree) rest, some r.tree)
-
 -- ---- a command before its operands
 
 -- what the reader promises

@@ -6,40 +6,11 @@ use Rattle.question.proofs.Operands.{head, tail, longer}
 use Rattle.question.proofs.Scan.{failed, Read, signed, signs, opens, opens_sign, one_last, two_first, two_last, three_first, three_second, three_last, field_reads, number_reads, shorter}
 use Rattle.question.proofs.walks.+read.Goals as goal
 
-pub returns-in_err-read-in-63 : goal.returns-in_err-read-in-63
-returns-in_err-read-in-63 t c =
-    let bs = c.args.bytes.now in
-    let left = c.in_err-read-in-63.field-0.0 in
-    failed c.args.bytes.now c.from_residual.result c.from_residual.ensures.1 (opens (λ x. Stuck x left) bs 63 c.in-63.is refl refl (three_first (tail bs) c.in_err-read-in-63.ensures))
-
-pub read-requires-in-63-2 : goal.read-requires-in-63-2
-read-requires-in-63-2 t c =
-    let s = shorter c.in_ok-read-in-63.ensures in
-    (omega (arith, s, longer c.args.bytes.now (ap command c.in-63.is) refl, c.decreases), tt)
-
 pub returns-in_err-read-in-63-2 : goal.returns-in_err-read-in-63-2
 returns-in_err-read-in-63-2 t c =
     let bs = c.args.bytes.now in
     let left = c.in_err-read-in-63-2.field-0.0 in
     failed c.args.bytes.now c.from_residual-in_err-read-in-63-2.result c.from_residual-in_err-read-in-63-2.ensures.1 (opens (λ x. Stuck x left) bs 63 c.in-63.is refl refl (three_second (tail bs) c.in_ok-read-in-63.field-0.now c.in_ok-read-in-63.ensures c.in_err-read-in-63-2.ensures))
-
-pub read-requires-in-63-3 : goal.read-requires-in-63-3
-read-requires-in-63-3 t c =
-    let s = shorter c.in_ok-read-in-63.ensures in
-    let s2 = shorter c.in_ok-read-in-63-2.ensures in
-    (omega (arith, s, s2, longer c.args.bytes.now (ap command c.in-63.is) refl, c.decreases), tt)
-
-pub returns-in_err-read-in_default-command : goal.returns-in_err-read-in_default-command
-returns-in_err-read-in_default-command t c =
-    let bs = c.args.bytes.now in
-    let left = c.in_err-read-in_default-command.field-0.0 in
-    let s = signed (head c.args.bytes.now) c.takes_two.ensures c.if-takes_two.true in
-    failed c.args.bytes.now c.from_residual-in_err-read-in_default-command.result c.from_residual-in_err-read-in_default-command.ensures.1 (opens_sign (λ x. Stuck x left) bs s (two_first s.op (tail bs) c.in_err-read-in_default-command.ensures))
-
-pub read-requires-in_default-command-2 : goal.read-requires-in_default-command-2
-read-requires-in_default-command-2 t c =
-    let s = shorter c.in_ok-read-in_default-command.ensures in
-    (omega (arith, s, longer c.args.bytes.now (signs (head c.args.bytes.now) c.takes_two.ensures c.if-takes_two.true).1 refl, c.decreases), tt)
 
 pub returns-in-len1-up-rest : goal.returns-in-len1-up-rest
 returns-in-len1-up-rest t c = field_reads c.args.bytes.now c.in-f.is (search rules) c.if-k-le3.true

@@ -6,19 +6,6 @@ use Rattle.question.specs.Expressions.{limit, same}
 use Rattle.question.proofs.Values.{fits64, times_fits}
 use Rattle.question.proofs.walks.apply.Goals as goal
 
--- two numbers are equal when their bits are
-same_bits : (x y : ℤ) → nat_abs x ≤ limit → nat_abs y ≤ limit → eqb (of_z w64 x) (of_z w64 y) ≡ same x y
-same_bits (pos a) (pos b) h k = refl
-same_bits (pos a) (negsuc b) h k = grind (arith, nat_tests)
-same_bits (negsuc a) (pos b) h k = grind (arith, nat_tests)
-same_bits (negsuc a) (negsuc b) h k = grind (arith, nat_tests)
-
-pub overflow_mul-result : goal.overflow_mul-result
-overflow_mul-result c =
-    let x = fits64 c.args.x (omega (arith, c.requires.small.first)) in
-    let y = fits64 c.args.y (omega (arith, c.requires.small.second)) in
-    rw (to_z-of_z w64 c.args.x x, to_z-of_z w64 c.args.y y) (times_fits c.args.x c.args.y c.requires.small.first c.requires.small.second)
-
 pub returns-in-42 : goal.returns-in-42
 returns-in-42 c =
     let X = c.args.x in
