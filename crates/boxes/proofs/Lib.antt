@@ -1,3 +1,4 @@
+pub mod Fours
 pub mod Loops
 pub mod Handing
 pub mod Takings

@@ -1,20 +1,20 @@
 -- What making boxes gives.
-use Rattle.std.proofs.Common.{◌≡◌, ℕ, zero, suc, ◌+◌, ◌-◌, ◌^◌, ◌<◌, ◌≤◌, true, false, cond, eqb, nat_le, List, [], ◌∷◌, length, get_or, take, replicate, None, sym, refl, ap, ◌∙◌, mul-one, arith, eq-eqb, le-leb, leb-true}
+use Rattle.std.proofs.Common.{◌≡◌, ℕ, Bool, not, zero, suc, ◌+◌, ◌-◌, ◌^◌, ◌<◌, ◌≤◌, true, false, cond, eqb, List, [], ◌∷◌, length, get_or, take, replicate, sym, refl, ap, ◌∙◌, mul-one, arith, eq-eqb, le-leb}
 use Rattle.std.proofs.lemmas.Bool.{and_from}
-use Rattle.refusal.specs.Replies.{Reply, given, declined}
-use Rattle.question.proofs.Questions.{and_left, and_right}
+use Rattle.refusal.specs.Replies.{given, refuse_if}
 use Rattle.belief.specs.Sheets.{up_to, all_of, both}
-use Rattle.belief.specs.Meaning.{Meaning}
 use Rattle.belief.proofs.Sums.{up_to_cong}
 use Rattle.ranges.specs.declared.shapes.WeightedBox.{WeightedBox}
 use Rattle.ranges.specs.Boxes.{within, inside, fits, width, volume, entire, over_boxes, weight_at, total_in, fit_all, apart_all, disjoint}
 use Rattle.ranges.proofs.Weights.{volume_pos}
 use Rattle.boxes.specs.declared.holding.Boxes.{Boxes}
 use Rattle.boxes.specs.declared.lists.BoxList.{BoxList}
-use Rattle.boxes.specs.Spans.{good_span, zero_outside}
-use Rattle.boxes.specs.Holding.{most_boxes, weight_in, sound_in, boxed, held, meaning, single, making, Fresh, Blank}
+use Rattle.belief.specs.declared.spans.Span.{Span}
+use Rattle.belief.specs.Spans.{good_span, zero_outside, span_made}
+use Rattle.belief.proofs.Spanned.{span_some, span_last}
+use Rattle.boxes.specs.Holding.{most_boxes, weight_in, sound_in, boxed, held, meaning, single, Fresh, Blank}
 use Rattle.boxes.specs.Takers.{listed, put, Holds}
-use Rattle.boxes.specs.Fours.{four_entire, four_volume, products}
+use Rattle.boxes.proofs.Fours.{four_entire, four_volume, products}
 use Rattle.boxes.proofs.Gathers.{puts_hold}
 use Rattle.boxes.specs.Masks.{Under, over_in, over_span}
 use Rattle.boxes.specs.Meanings.{Tested, sound_made}
@@ -61,8 +61,8 @@ module _ (f c : ℕ) (tops : List ℕ) (s : good_span f c ≡ true) (z : zero_ou
       let v = volume_pos tops (entire tops) (entire_fits tops) in
       let m = mul-one (volume (entire tops)) in
       record {
-        some = leb-true _ _ (and_left (nat_le 1 c) _ s);
-        last = leb-true _ _ (and_right (nat_le 1 c) _ s);
+        some = span_some f c s;
+        last = span_last f c s;
         out = z;
         few = omega arith;
         fit = and_from _ _ (and_from _ _ (entire_fits tops) refl) refl;
@@ -78,20 +78,17 @@ module _ (f c : ℕ) (tops : List ℕ) (s : good_span f c ≡ true) (z : zero_ou
     ones = over_span both f c tops (λ s. eqb (weight_at (single tops) s) 1) l z ∙ over_in both tops _ (λ s. true) (single_ones tops) ∙ over_true tops;
   }
 
--- ---- what making replies
+-- ---- the span that was made
 
-module _ (f c : ℕ) (tops : List ℕ) where
-  pub making_span : good_span f c ≡ false → ◌≡◌ {A = Reply Meaning} (declined 1 None) (making f c tops)
-  unfolding making
-  making_span e = simp e
+made_by : (a b : Bool) (x y : Span) → given x ≡ refuse_if (not a) 1 (refuse_if (not b) 2 (given y)) → (x ≡ y) × (a ≡ true) × (b ≡ true)
+made_by true true x y e = (cc, refl, refl)
+made_by true false x y e = absurd (cc)
+made_by false b x y e = absurd (cc)
 
-  pub making_value : good_span f c ≡ true → zero_outside f c tops ≡ false → ◌≡◌ {A = Reply Meaning} (declined 2 None) (making f c tops)
-  unfolding making
-  making_value e h = simp (e, h)
-
-  pub making_ok : (bs : List WeightedBox) → good_span f c ≡ true → zero_outside f c tops ≡ true → bs ≡ single tops → ◌≡◌ {A = Reply Meaning} (given (boxed f c tops bs)) (making f c tops)
-  unfolding making
-  making_ok bs e h k = ap (λ z. given (boxed f c tops z)) k ∙ simp (e, h)
+pub made_good : (f c : ℕ) (tops : List ℕ) (x : Span) → given x ≡ span_made f c tops → (good_span x.first x.count ≡ true) × (zero_outside x.first x.count x.tops ≡ true)
+made_good f c tops x e =
+    let m = made_by (good_span f c) (zero_outside f c tops) x _ e in
+    (ap (λ x. good_span x.first x.count) m.0 ∙ m.1, ap (λ x. zero_outside x.first x.count x.tops) m.0 ∙ m.2)
 
 -- one box put into an empty list
 module _ (k l : BoxList) (b : WeightedBox) (tops : List ℕ) (eb : b ≡ record { sides = entire tops; weight = 1 }) (el : l.len ≡ 0) (en : length l.boxes ≡ most_boxes) (ek : k ≡ put l b) where
@@ -111,7 +108,7 @@ none_sound : (bs : List WeightedBox) → sound_in 0 0 (replicate 4 0) bs ≡ fal
 unfolding sound_in
 none_sound bs = refl
 
-pub blank : (b : Boxes) → b.first ≡ 0 → b.count ≡ 0 → b.tops ≡ replicate 4 0 → b.kept.len ≡ 0 → Blank b
+pub blank : (b : Boxes) → b.span.first ≡ 0 → b.span.count ≡ 0 → b.span.tops ≡ replicate 4 0 → b.kept.len ≡ 0 → Blank b
 unfolding held
 blank b f c t n =
     let e : meaning b ≡ boxed 0 0 (replicate 4 0) [] = λ i. boxed (f i) (c i) (t i) (take (n i) b.kept.boxes) in

@@ -15,10 +15,10 @@ use Rattle.ranges.proofs.Pieces.{fits_length}
 use Rattle.ranges.proofs.Covers.{disjoint_cover, cover_disjoint}
 use Rattle.ranges.proofs.Combinations.{pieces_combined}
 use Rattle.ranges.proofs.Classes.{pieces_once, pieces_agree, pieces_joint, one_answer}
-use Rattle.boxes.specs.Spans.{zero_outside, span_value, span_only}
+use Rattle.belief.specs.Spans.{zero_outside, span_value, span_only}
+use Rattle.belief.proofs.Spanned.{zero_at}
 use Rattle.boxes.specs.Holding.{weight_in, sound_in, between}
 use Rattle.boxes.specs.Laws.{Hold, cases, Combined, Sorts, OneAnswer, Sound, Soundness}
-use Rattle.boxes.specs.Masks.{zero_at}
 use Rattle.boxes.specs.Meanings.{sound_parts, sound_made, summed}
 
 pub hold : Hold cases

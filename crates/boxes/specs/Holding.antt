@@ -1,17 +1,17 @@
 -- What a belief kept as boxes means, and what making and leaning give. Assumes nothing.
-use Rattle.std.specs.Prelude.{◌≡◌, ℕ, suc, ◌*◌, ◌^◌, Bool, true, false, cond, not, ◌&&◌, List, [], ◌∷◌, length, take, replicate, Ok, Err, Result, nat_eq, nat_le}
+use Rattle.std.specs.Prelude.{◌≡◌, ℕ, suc, ◌*◌, Bool, true, false, cond, not, ◌&&◌, List, [], ◌∷◌, length, take, replicate, Ok, Err, Result, nat_eq, nat_le}
 use Rattle.refusal.specs.declared.list.Refusal.{Refusal}
-use Rattle.refusal.specs.Replies.{Reply, given, refuse_if}
+use Rattle.refusal.specs.Replies.{Reply, given, mapped, refuse_if}
 use Rattle.question.specs.Expressions.{greatest}
 use Rattle.question.specs.Questions.{is_stepped, reads_in, all_below}
 use Rattle.belief.specs.Sheets.{all_of}
 use Rattle.belief.specs.Meaning.{Asked, Meaning}
+use Rattle.belief.specs.Spans.{good_span, zero_outside, span_only, span_made, most_total, good_total}
 use Rattle.ranges.specs.declared.shapes.Side.{Side}
 use Rattle.ranges.specs.declared.shapes.WeightedBox.{WeightedBox}
 use Rattle.ranges.specs.Boxes.{inside, entire, weight_at, total_in, fits, fit_all, disjoint}
 use Rattle.ranges.specs.Changes.{revised_boxes, leaned_boxes}
 use Rattle.boxes.specs.declared.holding.Boxes.{Boxes}
-use Rattle.boxes.specs.Spans.{good_span, zero_outside, span_only}
 
 -- the most boxes that are kept
 abbrev pub most_boxes : ℕ
@@ -26,7 +26,7 @@ weight_in first count bs s = weight_at bs (span_only first count s)
 -- at most 64 boxes, each within the tops, not empty and of weight 1 at least, no two with a sheet in common,
 -- and a total of 1 to 2 to the 40th
 unfoldable pub good_boxes : List ℕ → List WeightedBox → Bool
-good_boxes tops bs = nat_le (length bs) most_boxes && (fit_all tops bs && (disjoint bs && (nat_le 1 (total_in bs) && nat_le (total_in bs) (2 ^ 40))))
+good_boxes tops bs = nat_le (length bs) most_boxes && (fit_all tops bs && (disjoint bs && good_total (total_in bs)))
 
 -- sound boxes: such boxes over a span with its tops
 unfoldable pub sound_in : ℕ → ℕ → List ℕ → List WeightedBox → Bool
@@ -57,7 +57,7 @@ unfoldable pub held : Boxes → List WeightedBox
 held b = take b.kept.len b.kept.boxes
 
 abbrev pub meaning : Boxes → Meaning
-meaning b = boxed b.first b.count b.tops (held b)
+meaning b = boxed b.span.first b.span.count b.span.tops (held b)
 
 -- ---- making
 
@@ -65,12 +65,9 @@ meaning b = boxed b.first b.count b.tops (held b)
 abbrev pub single : List ℕ → List WeightedBox
 single tops = record { sides = entire tops; weight = 1 } ∷ []
 
--- fresh boxes: 1, then 2, else one box over the whole span, of weight 1
-unfoldable pub making : ℕ → ℕ → List ℕ → Reply Meaning
-making first count tops =
-    refuse_if (not (good_span first count)) 1 (
-    refuse_if (not (zero_outside first count tops)) 2 (
-    given (boxed first count tops (single tops))))
+-- fresh boxes: 1 or 2, else one box over the whole span, of weight 1
+abbrev pub making : ℕ → ℕ → List ℕ → Reply Meaning
+making first count tops = mapped (λ x. boxed x.first x.count x.tops (single x.tops)) (span_made first count tops)
 
 -- a fresh belief is sound, and every sheet of its span weighs 1
 pub record Fresh (m : Meaning) : Type 0 where
@@ -99,19 +96,19 @@ good_factor f = nat_le 2 f && nat_le f 255
 
 -- whether boxes are few enough, and light enough together
 unfoldable pub room : List WeightedBox → Bool
-room bs = nat_le (length bs) most_boxes && nat_le (total_in bs) (2 ^ 40)
+room bs = nat_le (length bs) most_boxes && nat_le (total_in bs) most_total
 
 -- what leaning on the box from ls to hs by the factor f replies: 2, then 3, then 5
 unfoldable pub leaning : Boxes → List ℕ → List ℕ → ℕ → Reply (Unit {0})
 leaning b ls hs f =
-    refuse_if (not (good_edges b.first b.count b.tops ls hs)) 2 (
+    refuse_if (not (good_edges b.span.first b.span.count b.span.tops ls hs)) 2 (
     refuse_if (not (good_factor f)) 3 (
     refuse_if (not (room (leaned_boxes (between ls hs) f (held b)))) 5 (
     given tt)))
 
 -- what it leaves, by what it returned
 abbrev pub leaned_to : Result (Unit {0}) Refusal → Boxes → List ℕ → List ℕ → ℕ → Meaning
-leaned_to (Ok u) b ls hs f = boxed b.first b.count b.tops (leaned_boxes (between ls hs) f (held b))
+leaned_to (Ok u) b ls hs f = boxed b.span.first b.span.count b.span.tops (leaned_boxes (between ls hs) f (held b))
 leaned_to (Err e) b ls hs f = meaning b
 
 -- sound boxes that were leaned stay sound, and the weights of the sheets inside the box are multiplied, all others kept

@@ -1,10 +1,11 @@
 -- What the definitions of boxes promise, in words of sheets, steps and answers. Assumes nothing.
-use Rattle.std.specs.Prelude.{◌≡◌, ℕ, ◌+◌, ◌^◌, ◌<◌, ◌≤◌, true, false, cond, List, [], ◌∷◌, length, All, Decides, slice_index}
+use Rattle.std.specs.Prelude.{◌≡◌, ℕ, ◌+◌, ◌<◌, ◌≤◌, true, false, cond, List, [], ◌∷◌, length, All, Decides, slice_index}
 use Rattle.question.specs.declared.steps.Step.{Step}
 use Rattle.question.specs.Steps.{Agree}
 use Rattle.question.specs.Questions.{answers, is_stepped, steps_of, in_span}
 use Rattle.belief.specs.Sheets.{sum_of}
 use Rattle.belief.specs.Meaning.{total_of, peak_of}
+use Rattle.belief.specs.Spans.{most_total}
 use Rattle.ranges.specs.declared.shapes.Side.{Side}
 use Rattle.ranges.specs.declared.shapes.WeightedBox.{WeightedBox}
 use Rattle.ranges.specs.Boxes.{inside, fits, corner, cover_at, fit_all}
@@ -77,7 +78,7 @@ pub record Sound (first count : ℕ) (tops : List ℕ) (bs : List WeightedBox) :
   pub apart : (s : List ℕ) → cover_at bs s ≤ 1
   -- all sheets of the span weigh 1 to 2 to the 40th together
   pub least : 1 ≤ sum_of tops (weight_in first count bs)
-  pub most : sum_of tops (weight_in first count bs) ≤ 2 ^ 40
+  pub most : sum_of tops (weight_in first count bs) ≤ most_total
 
 -- the test says exactly that
 abbrev pub Soundness : Type 0

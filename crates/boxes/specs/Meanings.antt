@@ -1,5 +1,5 @@
 -- What sound boxes mean: their laws, and what revising makes of them.
-use Rattle.std.specs.Prelude.{◌≡◌, ℕ, zero, suc, ◌+◌, ◌^◌, ◌<◌, ◌≤◌, max, Bool, true, false, cond, ◌&&◌, nat_le, List, [], ◌∷◌, length, filter, ◌==◌, slice_index}
+use Rattle.std.specs.Prelude.{◌≡◌, ℕ, zero, suc, ◌+◌, ◌<◌, ◌≤◌, max, Bool, true, false, cond, ◌&&◌, nat_le, List, [], ◌∷◌, length, filter, ◌==◌, slice_index}
 use Rattle.std.proofs.Math.Path.{refl, sym, ap}
 use Rattle.std.proofs.Common.{◌∙◌}
 use Rattle.std.proofs.Math.Logic.{inl, inr}
@@ -12,6 +12,8 @@ use Rattle.question.specs.Questions.{answers, is_stepped, steps_of, reads_in, in
 use Rattle.question.proofs.Questions.{and_left, and_right, answers_small, answers_span, step_stepped, step_inside, below_at, all_below_true}
 use Rattle.belief.specs.Sheets.{sum_of, max_of, all_of, plus, both}
 use Rattle.belief.specs.Meaning.{Laws, kept, total_of, peak_of, whole_of, mass_of, heaviest_of, revised}
+use Rattle.belief.specs.Spans.{good_span, zero_outside, span_only, most_total}
+use Rattle.belief.proofs.Spanned.{in_below, span_agree, span_same, zero_at, span_some, span_last, total_least, total_most, total_good}
 use Rattle.belief.proofs.Sums.{over_cong, mass_total}
 use Rattle.belief.proofs.Revisings.{ext, same}
 use Rattle.ranges.specs.declared.shapes.Side.{Side}
@@ -23,9 +25,8 @@ use Rattle.ranges.proofs.Folds.{never, fitting, fit}
 use Rattle.ranges.proofs.Weights.{total_is, weight_total, peak_is, whole_is}
 use Rattle.ranges.proofs.Changes.{revised_is, revised_fits, revised_disjoint}
 use Rattle.ranges.proofs.Simple.{simple_few}
-use Rattle.boxes.specs.Spans.{good_span, zero_outside, span_only}
 use Rattle.boxes.specs.Holding.{most_boxes, weight_in, good_boxes, sound_in, carried, after, boxed}
-use Rattle.boxes.specs.Masks.{in_below, span_agree, span_same, zero_at, over_span}
+use Rattle.boxes.specs.Masks.{over_span}
 
 -- ---- what soundness tests
 
@@ -37,7 +38,7 @@ pub record Tested (f c : ℕ) (tops : List ℕ) (bs : List WeightedBox) : Type 0
   pub fit : fit_all tops bs ≡ true
   pub apart : disjoint bs ≡ true
   pub least : 1 ≤ total_in bs
-  pub most : total_in bs ≤ 2 ^ 40
+  pub most : total_in bs ≤ most_total
 
 module _ (f c : ℕ) (tops : List ℕ) (bs : List WeightedBox) where
   pub sound_parts : sound_in f c tops bs ≡ true → Tested f c tops bs
@@ -50,21 +51,21 @@ module _ (f c : ℕ) (tops : List ℕ) (bs : List WeightedBox) where
       let r4 = and_right (fit_all tops bs) _ r3 in
       let r5 = and_right (disjoint bs) _ r4 in
       record {
-        some = leb-true _ _ (and_left (nat_le 1 c) _ g);
-        last = leb-true _ _ (and_right (nat_le 1 c) _ g);
+        some = span_some f c g;
+        last = span_last f c g;
         out = and_right (good_span f c) _ s;
         few = leb-true _ _ (and_left (nat_le (length bs) most_boxes) _ r2);
         fit = and_left (fit_all tops bs) _ r3;
         apart = and_left (disjoint bs) _ r4;
-        least = leb-true _ _ (and_left (nat_le 1 (total_in bs)) _ r5);
-        most = leb-true _ _ (and_right (nat_le 1 (total_in bs)) _ r5);
+        least = total_least (total_in bs) r5;
+        most = total_most (total_in bs) r5;
       }
 
   pub sound_made : Tested f c tops bs → sound_in f c tops bs ≡ true
   unfolding sound_in good_boxes
   sound_made p =
       and_from _ _ (and_from _ _ (and_from _ _ (le-leb _ _ p.some) (le-leb _ _ p.last)) p.out)
-      (and_from _ _ (le-leb _ _ p.few) (and_from _ _ p.fit (and_from _ _ p.apart (and_from _ _ (le-leb _ _ p.least) (le-leb _ _ p.most)))))
+      (and_from _ _ (le-leb _ _ p.few) (and_from _ _ p.fit (and_from _ _ p.apart (total_good (total_in bs) p.least p.most))))
 
 -- ---- totals
 
@@ -204,7 +205,7 @@ module _ (f c : ℕ) (tops : List ℕ) (bs : List WeightedBox) (four : length to
     unfolding heaviest_of
     heaviest_of_boxes = over_cong max tops _ _ (λ s. sym (weights s)) ∙ peaked f c tops (revised_boxes q a bs) four p.out pieces_fit pieces_apart
 
-    pub mass_most : total_in (revised_boxes q a bs) ≤ 2 ^ 40
+    pub mass_most : total_in (revised_boxes q a bs) ≤ most_total
     mass_most = let m = mass_of_boxes in let t = total_of_boxes in let l = mass_total (boxed f c tops bs) q a in let k = p.most in omega arith
 
     pub revised_sound : 1 ≤ total_in (revised_boxes q a bs) → Tested f c tops (revised_boxes q a bs)

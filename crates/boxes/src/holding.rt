@@ -2,6 +2,7 @@
 ghost use Rattle.std.specs.Prelude.{◌≡◌, ◌≤◌, length};
 
 use crate::lists::BoxList;
+use belief::Span;
 
 mod calls;
 pub(crate) mod kind;
@@ -10,10 +11,8 @@ pub(crate) mod making;
 
 #[derive(Clone, Copy)]
 pub struct Boxes {
-    first: u8,
-    count: u8,
-    tops: [u8; 4],
+    span: Span,
     kept: BoxList,
-    ghost four: { length tops ≡ 4 },
+    ghost four: { length span.tops ≡ 4 },
     ghost few: { kept.len ≤ 64 },
 }

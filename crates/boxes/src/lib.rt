@@ -11,7 +11,6 @@ mod cuts;
 mod holding;
 mod lists;
 mod measures;
-mod spans;
 mod sums;
 mod takers;
 mod taking;

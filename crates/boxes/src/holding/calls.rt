@@ -7,7 +7,6 @@ ghost use Rattle.belief.specs.Meaning.{mass_of, heaviest_of};
 ghost use Rattle.belief.specs.Calls.{replied};
 ghost use Rattle.ranges.specs.Boxes.{volume, entire};
 ghost use Rattle.ranges.specs.Changes.{revised_boxes};
-ghost use Rattle.boxes.specs.Spans.{good_span, zero_outside, span_only};
 ghost use Rattle.boxes.specs.Holding.{good_boxes, held, meaning, carried};
 ghost use Rattle.boxes.specs.Takers.{Weighed, Holds};
 
@@ -15,9 +14,9 @@ use crate::cuts::hand_all;
 use crate::holding::Boxes;
 use crate::lists::BoxList;
 use crate::measures::{entire_of, volume_of};
-use crate::spans::{good_span, good_total, span_only, zero_outside};
 use crate::sums::{all_apart, all_fit, total_of};
 use crate::takers::{Sieve, Tally};
+use belief::good_total;
 use question::Question;
 use ranges::WeightedBox;
 use refusal::Refusal;
@@ -30,45 +29,31 @@ impl Boxes {
         &self.kept.boxes[..self.kept.len]
     }
 
-    // Whether the span and the tops are those of a belief.
-    pub(crate) fn is_spanned(&self) -> bool
-        ensures { result ≡ (good_span self.now.first self.now.count && zero_outside self.now.first self.now.count self.now.tops) }
-    {
-        good_span(self.first, self.count) & zero_outside(self.first, self.count, self.tops)
-    }
-
     // Whether the boxes fit the tops, are apart, and weigh neither nothing nor too much.
     pub(crate) fn is_boxed(&self) -> bool
-        ensures { result ≡ good_boxes self.now.tops (held self.now) }
+        ensures { result ≡ good_boxes self.now.span.tops (held self.now) }
     {
         let boxes = self.held();
-        all_fit(self.tops, boxes) & (all_apart(boxes) & good_total(total_of(boxes)))
+        all_fit(self.span.tops, boxes) & (all_apart(boxes) & good_total(total_of(boxes)))
     }
 
     // How many sheets the span has.
     pub(crate) fn sheets(&self) -> u64
-        ensures is { result ≡ volume (entire self.now.tops) }
+        ensures is { result ≡ volume (entire self.now.span.tops) }
         ensures small { result ≤ 2 ^ 32 }
     {
-        volume_of(entire_of(self.tops))
-    }
-
-    // The bytes of a sheet with 0 outside the span.
-    pub(crate) fn own(&self, sheet: [u8; 4]) -> [u8; 4]
-        ensures { result ≡ span_only self.now.first self.now.count sheet }
-    {
-        span_only(self.first, self.count, sheet)
+        volume_of(entire_of(self.span.tops))
     }
 
     // What the pieces under a question come to, if it is carried.
     pub(crate) fn tally(&self, question: Question, answer: u8) -> Option<Tally>
-        ensures carries { is_some result ≡ carried self.now.first self.now.count (held self.now) (text question) }
+        ensures carries { is_some result ≡ carried self.now.span.first self.now.span.count (held self.now) (text question) }
         ensures weighs { IfSome result (λ t. Weighed t (revised_boxes (text question) answer (held self.now))) }
     {
         let Some(steps) = question.steps() else {
             return None;
         };
-        if !question.reads_in(self.first, self.count) {
+        if !question.reads_in(self.span.first, self.span.count) {
             return None;
         }
         let mut tally = Tally::new(question, answer);

@@ -17,22 +17,22 @@ impl Belief for Boxes {
 
     ghost means = { meaning };
 
-    ghost laws = { λ b e. Meanings.boxes_laws b.first b.count b.tops (Holding.held b) b.four (parts b e) };
+    ghost laws = { λ b e. Meanings.boxes_laws b.span.first b.span.count b.span.tops (Holding.held b) b.four (parts b e) };
 
     fn sound(&self) -> bool {
-        self.is_spanned() & self.is_boxed()
+        self.span.is_good() & self.is_boxed()
     }
 
     fn first(&self) -> u8 {
-        self.first
+        self.span.first
     }
 
     fn count(&self) -> u8 {
-        self.count
+        self.span.count
     }
 
     fn tops(&self) -> [u8; 4] {
-        self.tops
+        self.span.tops
     }
 
     fn total(&self) -> u64 {
@@ -48,7 +48,7 @@ impl Belief for Boxes {
     }
 
     fn weight(&self, sheet: [u8; 4]) -> u64 {
-        weight_of(self.held(), self.own(sheet))
+        weight_of(self.held(), self.span.only(sheet))
     }
 
     fn carries(&self, question: &[u8]) -> Result<bool, Refusal> {

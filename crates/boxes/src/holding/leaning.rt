@@ -1,6 +1,7 @@
 // How boxes lean: all are cut at the edges of one box, and the weights inside it are multiplied.
-ghost use Rattle.std.specs.Prelude.{◌≡◌, ◌^◌, ◌≤◌, true, ◌&&◌, map, OnOk, nat_le};
+ghost use Rattle.std.specs.Prelude.{◌≡◌, ◌≤◌, true, ◌&&◌, map, OnOk, nat_le};
 ghost use Rattle.refusal.specs.Replies.{reply, refused};
+ghost use Rattle.belief.specs.Spans.{most_total};
 ghost use Rattle.ranges.specs.Boxes.{total_in};
 ghost use Rattle.ranges.specs.Pieces.{cut_all};
 ghost use Rattle.ranges.specs.Changes.{edges};
@@ -12,9 +13,9 @@ use crate::holding::Boxes;
 use crate::lists::BoxList;
 use crate::lists::calls::may_keep;
 use crate::measures::{box_fits, sides_between};
-use crate::spans::{MOST_TOTAL, zero_outside};
 use crate::sums::total_of;
 use crate::takers::Press;
+use belief::MOST_TOTAL;
 use ranges::Side;
 use refusal::Refusal;
 
@@ -43,11 +44,11 @@ impl Boxes {
 
     // Whether the values from the lowest to the highest are those of a box of the span.
     fn good_edges(&self, lowest: [u8; 4], highest: [u8; 4]) -> bool
-        ensures { result ≡ good_edges self.now.first self.now.count self.now.tops lowest highest }
+        ensures { result ≡ good_edges self.now.span.first self.now.span.count self.now.span.tops lowest highest }
     {
-        box_fits(self.tops, sides_between(lowest, highest))
-            & (zero_outside(self.first, self.count, lowest)
-                & zero_outside(self.first, self.count, highest))
+        let span = self.span;
+        box_fits(span.tops, sides_between(lowest, highest))
+            & (span.is_zero_outside(lowest) & span.is_zero_outside(highest))
     }
 
     // The pieces of all boxes at the edges of a box, with the weights inside it multiplied.
@@ -73,7 +74,7 @@ fn good_factor(factor: u32) -> bool
 
 // Whether boxes are few enough, and light enough together.
 fn has_room(list: &BoxList) -> bool
-    ensures is { result ≡ (nat_le list.now.len most_boxes && nat_le (total_in (listed list.now)) (2 ^ 40)) }
+    ensures is { result ≡ (nat_le list.now.len most_boxes && nat_le (total_in (listed list.now)) most_total) }
     ensures few { result ≡ true → list.now.len ≤ most_boxes }
 {
     if !may_keep(list.len) {

@@ -7,7 +7,7 @@ ghost use Rattle.boxes.specs.Holding.{meaning, making, Fresh, Blank};
 use crate::holding::Boxes;
 use crate::lists::BoxList;
 use crate::measures::single_of;
-use crate::spans::{good_span, zero_outside};
+use belief::Span;
 use refusal::Refusal;
 
 impl Boxes {
@@ -16,20 +16,10 @@ impl Boxes {
         ensures makes { seen meaning (reply result) ≡ making first count tops }
         ensures fresh { IfOk result (λ b. Fresh (meaning b)) }
     {
-        if !good_span(first, count) {
-            return Err(Refusal::Span);
-        }
-        if !zero_outside(first, count, tops) {
-            return Err(Refusal::Value);
-        }
+        let span = Span::make(first, count, tops)?;
         let mut kept = BoxList::none();
-        kept.push(single_of(tops));
-        Ok(Boxes {
-            first,
-            count,
-            tops,
-            kept,
-        })
+        kept.push(single_of(span.tops));
+        Ok(Boxes { span, kept })
     }
 }
 
@@ -39,9 +29,11 @@ impl Default for Boxes {
 
     fn default() -> Boxes {
         Boxes {
-            first: 0,
-            count: 0,
-            tops: [0; 4],
+            span: Span {
+                first: 0,
+                count: 0,
+                tops: [0; 4],
+            },
             kept: BoxList::none(),
         }
     }

@@ -1,7 +1,7 @@
 -- A side of the four is cut where the box is.
 use Rattle.std.proofs.Common.{◌≡◌, length, ◌∙◌, arith, rules}
 use Rattle.ranges.proofs.Folds.{never}
-use Rattle.boxes.specs.Fours.{cut_at, cut_past}
+use Rattle.boxes.proofs.Fours.{cut_at, cut_past}
 use Rattle.boxes.proofs.cuts.is_cut.Goals as goal
 
 pub returns-then-k-ge4 : goal.returns-then-k-ge4

@@ -1,7 +1,7 @@
 -- The lower part of a cut box.
 use Rattle.std.proofs.Common.{set, ap, ◌∙◌}
 use Rattle.ranges.specs.Pieces.{below}
-use Rattle.boxes.specs.Fours.{part_at}
+use Rattle.boxes.proofs.Fours.{part_at}
 use Rattle.boxes.proofs.cuts.lower_of.Goals as goal
 
 pub returns : goal.returns

@@ -1,7 +1,7 @@
 -- The upper part of a cut box.
 use Rattle.std.proofs.Common.{set, ap, ◌∙◌}
 use Rattle.ranges.specs.Pieces.{above}
-use Rattle.boxes.specs.Fours.{part_at}
+use Rattle.boxes.proofs.Fours.{part_at}
 use Rattle.boxes.proofs.cuts.upper_of.Goals as goal
 
 pub returns : goal.returns

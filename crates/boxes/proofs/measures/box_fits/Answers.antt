@@ -1,6 +1,6 @@
 -- A box fits the tops side by side.
 use Rattle.std.proofs.Common.{rules}
-use Rattle.boxes.specs.Fours.{four_fits}
+use Rattle.boxes.proofs.Fours.{four_fits}
 use Rattle.boxes.proofs.measures.box_fits.Goals as goal
 
 pub returns : goal.returns

@@ -1,6 +1,6 @@
 -- Boxes are apart if some side is.
 use Rattle.std.proofs.Common.{rules}
-use Rattle.boxes.specs.Fours.{four_apart}
+use Rattle.boxes.proofs.Fours.{four_apart}
 use Rattle.boxes.proofs.measures.boxes_apart.Goals as goal
 
 pub returns : goal.returns

@@ -1,6 +1,6 @@
 -- The lowest values of the four sides.
 use Rattle.std.proofs.Common.{rules}
-use Rattle.boxes.specs.Fours.{four_corner}
+use Rattle.boxes.proofs.Fours.{four_corner}
 use Rattle.boxes.proofs.measures.corner_of.Goals as goal
 
 pub returns : goal.returns

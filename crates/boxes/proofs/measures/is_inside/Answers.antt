@@ -1,6 +1,6 @@
 -- A sheet lies in a box value by value.
 use Rattle.std.proofs.Common.{rules}
-use Rattle.boxes.specs.Fours.{four_inside}
+use Rattle.boxes.proofs.Fours.{four_inside}
 use Rattle.boxes.proofs.measures.is_inside.Goals as goal
 
 pub returns : goal.returns

@@ -1,6 +1,6 @@
 -- The four sides between two sheets.
 use Rattle.std.proofs.Common.{rules}
-use Rattle.boxes.specs.Fours.{four_between}
+use Rattle.boxes.proofs.Fours.{four_between}
 use Rattle.boxes.proofs.measures.sides_between.Goals as goal
 
 pub returns : goal.returns

@@ -1,6 +1,6 @@
 -- The product of four widths fits.
 use Rattle.std.proofs.Common.{arith, rules}
-use Rattle.boxes.specs.Fours.{four_volume, products}
+use Rattle.boxes.proofs.Fours.{four_volume, products}
 use Rattle.boxes.proofs.measures.volume_of.Goals as goal
 
 pub overflow_mul-result : goal.overflow_mul-result

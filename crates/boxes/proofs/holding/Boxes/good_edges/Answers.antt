@@ -6,4 +6,4 @@ use Rattle.boxes.proofs.holding.Boxes.good_edges.Goals as goal
 
 pub returns : goal.returns
 unfolding good_edges
-returns c = let e = c.box_fits.ensures ∙ ap (fits c.args.self.now.tops) c.sides_between.ensures in cc
+returns c = let e = c.box_fits.ensures ∙ ap (fits c.args.self.now.span.tops) c.sides_between.ensures in cc

@@ -47,7 +47,7 @@ returns c =
     record {
       replies = λ e. lean_ok b c.args.lowest c.args.highest c.args.factor g k (parts b e) _ _ c.sides_between.ensures c.pressed-list.ensures r;
       leaves = λ e.
-          ap (boxed b.first b.count b.tops)
+          ap (boxed b.span.first b.span.count b.span.tops)
           (lean_held b c.args.lowest c.args.highest c.args.factor g k (parts b e) _ _ c.sides_between.ensures c.pressed-list.ensures r);
       leans = λ e. leans b c.args.lowest c.args.highest c.args.factor g k (parts b e) _ _ c.sides_between.ensures c.pressed-list.ensures r;
       keeps = λ e. never e;

@@ -13,4 +13,4 @@ returns-in_default c = λ e. let q = text c.args.question in impossible (is_step
 pub returns : goal.returns
 returns c = λ e.
     let b = c.args.self.now in
-    sifts b.first b.count c.args.question (held b) c.in-Some.ensures c.args.answer _ _ c.none-2.result _ c.as_slice.ensures c.held.ensures c.none-2.ensures (search rules) c.hand_all.ensures
+    sifts b.span.first b.span.count c.args.question (held b) c.in-Some.ensures c.args.answer _ _ c.none-2.result _ c.as_slice.ensures c.held.ensures c.none-2.ensures (search rules) c.hand_all.ensures

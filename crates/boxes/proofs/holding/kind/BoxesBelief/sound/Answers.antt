@@ -4,4 +4,4 @@ use Rattle.boxes.proofs.holding.kind.BoxesBelief.sound.Goals as goal
 
 pub returns : goal.returns
 unfolding sound_in
-returns c = let a = c.is_spanned.ensures in let b = c.is_boxed.ensures in cc
+returns c = let a = c.is_good.ensures in let b = c.is_boxed.ensures in cc
