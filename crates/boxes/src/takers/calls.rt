@@ -30,11 +30,7 @@ impl Tally {
     pub(crate) fn is_few(&self) -> bool
         ensures { result ≡ all_below (suc greatest) (λ a. nat_le (slice_index self.now.pieces a) most_boxes) }
     {
-        let mut all = true;
-        for a in 0..ANSWERS {
-            all = all & may_keep(self.pieces[a] as usize);
-        }
-        all
+        self.pieces.iter().all(|n| may_keep(usize::from(*n)))
     }
 }
 

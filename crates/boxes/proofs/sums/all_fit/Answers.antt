@@ -1,14 +1,13 @@
 -- Each box against the tops.
-use Rattle.std.proofs.Common.{◌&&◌, nat_le, refl}
-use Rattle.ranges.specs.Boxes.{fits, fit_all}
-use Rattle.boxes.proofs.Loops.{test_more, test_all, fit_tests}
+use Rattle.std.proofs.Common.{◌&&◌, nat_le, ◌∙◌, rules}
+use Rattle.std.proofs.lemmas.Iterator.{YieldsList-from_slice}
+use Rattle.std.proofs.lemmas.Iterator.Search.{all_from_yields_List}
+use borrow.Author.Tests.{tests}
+use Rattle.ranges.specs.Boxes.{fits}
+use Rattle.boxes.proofs.Loops.{fit_tests}
 use Rattle.boxes.proofs.sums.all_fit.Goals as goal
 
-pub loop-b-init : goal.loop-b-init
-loop-b-init c = refl
-
-pub loop-b-preserved : goal.loop-b-preserved
-loop-b-preserved c = test_more (fit_all c.args.tops) (λ b bs. fits c.args.tops b.sides && nat_le 1 b.weight) (fit_tests _) _ _ c.loop-b.b-index c.args.boxes.now c.loop-b-test.true c.loop-b.invariant c.is_sound-all.ensures
-
 pub returns : goal.returns
-returns c = test_all (fit_all c.args.tops) (λ b bs. fits c.args.tops b.sides && nat_le 1 b.weight) (fit_tests _) _ c.loop-b.b-index c.args.boxes.now c.loop-b-test.false c.loop-b.invariant
+returns c =
+    all_from_yields_List (λ b. fits c.args.tops b.sides && nat_le 1 b.weight) _ _ _ c.all.ensures.ran (YieldsList-from_slice c.args.boxes.now cc) (λ x b q k. search (rules, tests))
+    ∙ fit_tests c.args.tops c.args.boxes.now

@@ -1,17 +1,15 @@
--- The volumes so far.
-use Rattle.std.proofs.Common.{arith}
-use Rattle.ranges.specs.Boxes.{volume_in}
-use Rattle.boxes.proofs.Loops.{sum_none, sum_more, sum_all}
+-- The volumes, one after another.
+use Rattle.std.proofs.Common.{◌+◌, ◌∙◌, refl, rules}
+use Rattle.std.proofs.lemmas.Iterator.{YieldsList-from_slice, YieldsList-from_map}
+use Rattle.std.proofs.lemmas.Iterator.Consumers.{fold_from_yields_List}
+use Rattle.ranges.specs.Boxes.{volume, volume_in}
+use Rattle.boxes.specs.Takers.{capped}
+use Rattle.boxes.proofs.Loops.{summed}
 use Rattle.boxes.proofs.sums.volumes_of.Goals as goal
-
-pub loop-b-init : goal.loop-b-init
-loop-b-init c = sum_none _ _
-
-pub loop-b-preserved : goal.loop-b-preserved
-loop-b-preserved c =
-    let e = c.volume_of.ensures.is in
-    sum_more _ c.args.boxes.now c.loop-b.b-index c.loop-b.sum c.volume_of.result _ c.loop-b-test.true (omega arith) c.saturating_add-sum.ensures c.loop-b.invariant
 
 pub returns : goal.returns
 unfolding volume_in
-returns c = sum_all _ c.args.boxes.now c.loop-b.b-index c.loop-b.sum c.loop-b-test.false c.loop-b.invariant
+returns c =
+    fold_from_yields_List _ (λ n m. capped (n + m)) 0 _ c.fold.ensures.ran
+    (YieldsList-from_map _ (λ b. volume b.sides) (YieldsList-from_slice c.args.boxes.now cc) c.map.ensures.closure (λ x r q k. search rules)) (λ n x r q k. search rules)
+    ∙ summed _ (λ b. volume b.sides) (λ b. refl) c.args.boxes.now

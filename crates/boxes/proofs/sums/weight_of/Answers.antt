@@ -1,16 +1,15 @@
--- The boxes passed do not hold the sheet.
-use Rattle.std.proofs.Common.{sym, refl, ◌∙◌}
-use Rattle.boxes.proofs.Loops.{weight_past, weight_found, weight_none}
+-- The first box in which the sheet lies.
+use Rattle.std.proofs.Common.{ap, ◌∙◌, rules}
+use Rattle.std.specs.Option.{unwrap_or, option_map}
+use Rattle.std.proofs.lemmas.Iterator.{YieldsList-from_slice}
+use Rattle.std.proofs.lemmas.Iterator.Search.{find_from_yields_List}
+use borrow.Author.Tests.{tests}
+use Rattle.ranges.specs.Boxes.{inside}
+use Rattle.boxes.proofs.Loops.{map_or_is, weight_first}
 use Rattle.boxes.proofs.sums.weight_of.Goals as goal
 
-pub loop-b-init : goal.loop-b-init
-loop-b-init c = refl
-
-pub loop-b-preserved : goal.loop-b-preserved
-loop-b-preserved c = weight_past c.args.boxes.now c.loop-b.b-index c.args.sheet _ c.loop-b-test.true (sym c.is_inside.ensures ∙ c.if-is_inside.false) c.loop-b.invariant
-
-pub returns-then-is_inside : goal.returns-then-is_inside
-returns-then-is_inside c = λ d. weight_found c.args.boxes.now c.loop-b.b-index c.args.sheet c.loop-b-test.true (sym c.is_inside.ensures ∙ c.if-is_inside.true) c.loop-b.invariant d
-
 pub returns : goal.returns
-returns c = λ d. weight_none c.args.boxes.now c.loop-b.b-index c.args.sheet c.loop-b-test.false c.loop-b.invariant
+returns c =
+    let e = find_from_yields_List (λ b. inside b.sides c.args.sheet) _ _ c.find.result c.find.ensures.ran (YieldsList-from_slice c.args.boxes.now cc) (λ x b q k. search (rules, tests)) in
+    λ d.
+    map_or_is c.find.result (λ x. x.now) (λ b. b.weight) _ c.map_or.ensures (λ x k. search rules) ∙ ap (λ o. unwrap_or (option_map (λ b. b.weight) o) 0) e ∙ weight_first c.args.boxes.now c.args.sheet d

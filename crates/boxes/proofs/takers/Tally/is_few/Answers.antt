@@ -1,15 +1,14 @@
 -- The answers, one by one.
-use Rattle.std.proofs.Common.{nat_le, get_or, ap, ◌∙◌, arith}
-use Rattle.question.specs.Questions.{all_below}
+use Rattle.std.proofs.Common.{nat_le, ◌∙◌, rules}
+use Rattle.std.proofs.lemmas.Iterator.{YieldsList-from_slice}
+use Rattle.std.proofs.lemmas.Iterator.Search.{all_from_yields_List}
+use borrow.Author.Tests.{tests}
 use Rattle.boxes.specs.Holding.{most_boxes}
-use Rattle.boxes.proofs.Loops.{below_none, below_next}
+use Rattle.boxes.proofs.Loops.{below_tests}
 use Rattle.boxes.proofs.takers.Tally.is_few.Goals as goal
 
-pub loop-a-init : goal.loop-a-init
-loop-a-init c = below_none _
-
-pub loop-a-preserved : goal.loop-a-preserved
-loop-a-preserved c = below_next _ _ _ _ c.loop-a.invariant c.may_keep-all.ensures
-
 pub returns : goal.returns
-returns c = c.loop-a.invariant ∙ ap (λ n. all_below n (λ a. nat_le (get_or c.args.self.now.pieces a 0) most_boxes)) (omega arith)
+returns c =
+    let xs = c.args.self.now.pieces in
+    all_from_yields_List (λ n. nat_le n most_boxes) _ _ _ c.all.ensures.ran (YieldsList-from_slice xs cc) (λ x b q k. search (rules, tests))
+    ∙ below_tests (λ n. nat_le n most_boxes) 16 xs (search rules)
