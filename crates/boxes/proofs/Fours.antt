@@ -1,5 +1,6 @@
 -- Four sides, and four bytes, one by one.
 use Rattle.std.specs.Prelude.{◌≡◌, ℕ, zero, suc, ◌+◌, ◌*◌, ◌^◌, ◌<◌, ◌≤◌, Bool, true, false, ◌&&◌, ◌||◌, List, [], ◌∷◌, length, nat_le, nat_lt, slice_index, slice_index_or, slice_set, refl}
+use Rattle.std.specs.List.{list_all, list_any, zip}
 use Rattle.std.proofs.Common.{sym, ap, ◌∙◌, arith, mul-one, mul-le-mul}
 use Rattle.ranges.specs.declared.shapes.Side.{Side}
 use Rattle.question.specs.declared.steps.Step.{Step}
@@ -37,63 +38,40 @@ pub four_volume : (xs : List Side) → length xs ≡ 4 → width (slice_index_or
 unfolding volume
 four_volume xs h = ap (λ z. width (slice_index_or xs 0 no_side) * (width (slice_index_or xs 1 no_side) * (width (slice_index_or xs 2 no_side) * z))) (sym (mul-one _)) ∙ by_four volume no_side xs h
 
-pub four_entire : (ts : List ℕ) → length ts ≡ 4 →
-    (record { low = 0; high = slice_index ts 0 } ∷ record { low = 0; high = slice_index ts 1 } ∷ record { low = 0; high = slice_index ts 2 } ∷ record { low = 0; high = slice_index ts 3 } ∷ []) ≡ entire ts
-unfolding entire
-four_entire ts h = by_four entire 0 ts h
-
 pub four_between : (ls hs : List ℕ) → length ls ≡ 4 → length hs ≡ 4 →
     (record { low = slice_index ls 0; high = slice_index hs 0 } ∷ record { low = slice_index ls 1; high = slice_index hs 1 } ∷ record { low = slice_index ls 2; high = slice_index hs 2 } ∷ record { low = slice_index ls 3; high = slice_index hs 3 } ∷ []) ≡ between ls hs
 unfolding between
 four_between ls hs h k = by_fours between 0 0 ls hs h k
 
-and_true : (b : Bool) → b ≡ (b && true)
-and_true true = refl
-and_true false = refl
-
-or_false : (b : Bool) → b ≡ (b || false)
-or_false true = refl
-or_false false = refl
-
-pub four_inside : (xs : List Side) (s : List ℕ) → length xs ≡ 4 → length s ≡ 4 → (a b c d : Bool) →
-    a ≡ within (slice_index_or xs 0 no_side) (slice_index s 0) → b ≡ within (slice_index_or xs 1 no_side) (slice_index s 1) → c ≡ within (slice_index_or xs 2 no_side) (slice_index s 2) → d ≡ within (slice_index_or xs 3 no_side) (slice_index s 3) →
-    (a && (b && (c && d))) ≡ inside xs s
-unfolding inside
-four_inside xs s h k a b c d ea eb ec ed =
-    let e : (a && (b && (c && (d && true)))) ≡ inside (four_of no_side xs) (four_of 0 s) = cc in
-    ap (λ z. a && (b && (c && z))) (and_true d) ∙ e ∙ by_fours inside no_side 0 xs s h k
-
-abbrev pub side_apart : List Side → List Side → ℕ → Bool
-side_apart xs ys k = nat_lt (slice_index_or xs k no_side).high (slice_index_or ys k no_side).low || nat_lt (slice_index_or ys k no_side).high (slice_index_or xs k no_side).low
-
-pub four_apart : (xs ys : List Side) → length xs ≡ 4 → length ys ≡ 4 → (a b c d : Bool) → a ≡ side_apart xs ys 0 → b ≡ side_apart xs ys 1 → c ≡ side_apart xs ys 2 → d ≡ side_apart xs ys 3 →
-    (a || (b || (c || d))) ≡ apart xs ys
-unfolding apart
-four_apart xs ys h k a b c d ea eb ec ed =
-    let e : (a || (b || (c || (d || false)))) ≡ apart (four_of no_side xs) (four_of no_side ys) = cc in
-    ap (λ z. a || (b || (c || z))) (or_false d) ∙ e ∙ by_fours apart no_side no_side xs ys h k
-
-abbrev pub side_low : List Side → ℕ → Bool
-side_low xs k = nat_le (slice_index_or xs k no_side).low (slice_index_or xs k no_side).high
-
-abbrev pub side_top : List ℕ → List Side → ℕ → Bool
-side_top ts xs k = nat_le (slice_index_or xs k no_side).high (slice_index ts k)
+-- ---- two boxes, or a box and four bytes, pair by pair
 
 and_assoc : (a b c : Bool) → ((a && b) && c) ≡ (a && (b && c))
 and_assoc true b c = refl
 and_assoc false b c = refl
 
-step_fits : (x a b r s : Bool) → x ≡ (a && b) → r ≡ s → (x && r) ≡ (a && (b && s))
-step_fits x a b r s e f = ap (λ z. z && r) e ∙ and_assoc a b r ∙ ap (λ z. a && (b && z)) f
+pub inside_pairs : (xs : List Side) (s : List ℕ) → length xs ≡ length s → list_all (λ p. nat_le p.0.low p.1 && nat_le p.1 p.0.high) (zip xs s) ≡ inside xs s
+unfolding inside within
+inside_pairs [] s h = refl
+inside_pairs (x ∷ xs) [] h = absurd (omega arith)
+inside_pairs (x ∷ xs) (v ∷ s) h = ap (λ z. within x v && z) (inside_pairs xs s (omega arith))
 
-pub four_fits : (ts : List ℕ) (xs : List Side) → length ts ≡ 4 → length xs ≡ 4 → (a b c d : Bool) →
-    a ≡ (side_low xs 0 && side_top ts xs 0) → b ≡ (side_low xs 1 && side_top ts xs 1) → c ≡ (side_low xs 2 && side_top ts xs 2) → d ≡ (side_low xs 3 && side_top ts xs 3) →
-    (a && (b && (c && d))) ≡ fits ts xs
+pub fits_pairs : (ts : List ℕ) (xs : List Side) → length ts ≡ length xs → list_all (λ p. nat_le p.1.low p.1.high && nat_le p.1.high p.0) (zip ts xs) ≡ fits ts xs
 unfolding fits
-four_fits ts xs h k a b c d ea eb ec ed =
-    ap (λ z. a && (b && (c && z))) (and_true d)
-    ∙ step_fits a (side_low xs 0) (side_top ts xs 0) _ _ ea (step_fits b (side_low xs 1) (side_top ts xs 1) _ _ eb (step_fits c (side_low xs 2) (side_top ts xs 2) _ _ ec (step_fits d (side_low xs 3) (side_top ts xs 3) true true ed refl)))
-    ∙ by_fours fits 0 no_side ts xs h k
+fits_pairs [] [] h = refl
+fits_pairs [] (x ∷ xs) h = absurd (omega arith)
+fits_pairs (t ∷ ts) [] h = absurd (omega arith)
+fits_pairs (t ∷ ts) (x ∷ xs) h = and_assoc (nat_le x.low x.high) (nat_le x.high t) _ ∙ ap (λ z. nat_le x.low x.high && (nat_le x.high t && z)) (fits_pairs ts xs (omega arith))
+
+pub apart_pairs : (xs ys : List Side) → list_any (λ p. nat_lt p.0.high p.1.low || nat_lt p.1.high p.0.low) (zip xs ys) ≡ apart xs ys
+unfolding apart
+apart_pairs [] ys = refl
+apart_pairs (x ∷ xs) [] = refl
+apart_pairs (x ∷ xs) (y ∷ ys) = ap (λ z. (nat_lt x.high y.low || nat_lt y.high x.low) || z) (apart_pairs xs ys)
+
+-- the box of all sheets lies between nothing and the tops
+pub between_entire : (ts : List ℕ) → length ts ≡ 4 → between (0 ∷ 0 ∷ 0 ∷ 0 ∷ []) ts ≡ entire ts
+unfolding between entire
+between_entire ts h = ap (between (0 ∷ 0 ∷ 0 ∷ 0 ∷ [])) (sym (fours 0 ts h)) ∙ ap entire (fours 0 ts h)
 
 abbrev pub start : ℕ → Side → Step
 start k x = record { field = k; bound = x.low }

@@ -14,7 +14,7 @@ use Rattle.belief.specs.Spans.{good_span, zero_outside, span_made}
 use Rattle.belief.proofs.Spanned.{span_some, span_last}
 use Rattle.boxes.specs.Holding.{most_boxes, weight_in, sound_in, boxed, held, meaning, single, Fresh, Blank}
 use Rattle.boxes.specs.Takers.{listed, put, Holds}
-use Rattle.boxes.proofs.Fours.{four_entire, four_volume, products}
+use Rattle.boxes.proofs.Fours.{fours, four_volume, products}
 use Rattle.boxes.proofs.Gathers.{puts_hold}
 use Rattle.boxes.specs.Masks.{Under, over_in, over_span}
 use Rattle.boxes.specs.Meanings.{Tested, sound_made}
@@ -47,11 +47,9 @@ single_ones ts s u = let z = ap {B = ℕ} (λ b. cond b 1 0) (entire_inside ts s
 
 -- its sheets are 2 to the 32nd at most
 pub entire_small : (ts : List ℕ) → length ts ≡ 4 → get_or ts 0 0 < 256 → get_or ts 1 0 < 256 → get_or ts 2 0 < 256 → get_or ts 3 0 < 256 → volume (entire ts) ≤ 2 ^ 32
-unfolding width
-entire_small ts l a b c d =
-    let e = four_entire ts l in
-    let n : length (entire ts) ≡ 4 = ap length (sym e) in
-    let v = ap volume (sym e) ∙ sym (four_volume _ refl) in
+unfolding width entire
+entire_small ts l a b d e =
+    let v = ap volume (sym (ap entire (fours 0 ts l))) ∙ sym (four_volume _ refl) in
     let p = (products (get_or ts 0 0 + 1 - 0) (get_or ts 1 0 + 1 - 0) (get_or ts 2 0 + 1 - 0) (get_or ts 3 0 + 1 - 0) (omega arith) (omega arith) (omega arith) (omega arith)).fourth in omega arith
 
 module _ (f c : ℕ) (tops : List ℕ) (s : good_span f c ≡ true) (z : zero_outside f c tops ≡ true) (l : length tops ≡ 4) (small : volume (entire tops) ≤ 2 ^ 32) where

@@ -1,5 +1,5 @@
 -- What takers make of one piece, and of many.
-use Rattle.std.proofs.Common.{◌≡◌, ℕ, ◌+◌, ◌*◌, ◌<◌, ◌≤◌, min, max, Bool, true, false, cond, eqb, ltb, List, get_or, set, sym, ap, ◌∙◌, le-ltb, lt-ltb}
+use Rattle.std.proofs.Common.{◌≡◌, ℕ, ◌+◌, ◌*◌, ◌<◌, ◌≤◌, min, max, true, false, cond, eqb, ltb, List, get_or, set, sym, ap, ◌∙◌, le-ltb, lt-ltb, eq-eqb, ne_eqb, ◌≢◌}
 use Rattle.question.specs.declared.checked.Question.{Question}
 use Rattle.question.specs.Questions.{answers}
 use Rattle.question.specs.Texts.{text}
@@ -28,38 +28,39 @@ module _ (q : Question) (p : WeightedBox) (s : List ℕ) (x : ℕ) (at : s ≡ c
   given : x ≡ answer_of (text q) p
   given = is ∙ ap (answers (text q)) at
 
-  wanted : (a : ℕ) (b : Bool) → b ≡ eqb x a → eqb (answer_of (text q) p) a ≡ b
-  wanted a b e = sym (e ∙ ap (λ z. eqb z a) given)
+  yes : (a : ℕ) → x ≡ a → eqb (answer_of (text q) p) a ≡ true
+  yes a e = eq-eqb _ _ (sym given ∙ e)
 
-  pub sift_yes : (a : ℕ) (l m : BoxList) → true ≡ eqb x a → m ≡ put l p → record { question = q; answer = a; kept = m } ≡ sifted (record { question = q; answer = a; kept = l }) p
+  no : (a : ℕ) → (x ≢ a) → eqb (answer_of (text q) p) a ≡ false
+  no a d = ne_eqb _ _ (λ e. d (given ∙ e))
+
+  pub sift_yes : (a : ℕ) (l m : BoxList) → x ≡ a → m ≡ put l p → record { question = q; answer = a; kept = m } ≡ sifted (record { question = q; answer = a; kept = l }) p
   unfolding sifted
-  sift_yes a l m e f =
-      let c = ap (λ z. cond z (put l p) l) (wanted a true e) in ap (λ z. record { question = q; answer = a; kept = z }) (f ∙ sym c)
+  sift_yes a l m e f = let y = yes a e in simp (y, f)
 
-  pub sift_no : (a : ℕ) (l : BoxList) → false ≡ eqb x a → record { question = q; answer = a; kept = l } ≡ sifted (record { question = q; answer = a; kept = l }) p
+  pub sift_no : (a : ℕ) (l : BoxList) → (x ≢ a) → record { question = q; answer = a; kept = l } ≡ sifted (record { question = q; answer = a; kept = l }) p
   unfolding sifted
-  sift_no a l e = let c = ap (λ z. cond z (put l p) l) (wanted a false e) in ap (λ z. record { question = q; answer = a; kept = z }) (sym c)
+  sift_no a l d = let n = no a d in simp n
 
-  module _ (a : ℕ) (ns : List ℕ) (m h n : ℕ) (one : n ≡ min (get_or ns x 0 + 1) 255) where
-    count_is : set ns x n ≡ counted ns (answer_of (text q) p)
+  module _ (a : ℕ) (ns : List ℕ) (m h i n : ℕ) (at_x : i ≡ x) (one : n ≡ min (get_or ns i 0 + 1) 255) where
+    count_is : set ns i n ≡ counted ns (answer_of (text q) p)
     unfolding counted
-    count_is = ap (set ns x) one ∙ ap (λ z. set ns z (min (get_or ns z 0 + 1) 255)) given
+    count_is = ap (set ns i) one ∙ ap (λ z. set ns z (min (get_or ns z 0 + 1) 255)) (at_x ∙ given)
 
-    pub tally_yes : (v k j : ℕ) → true ≡ eqb x a → v ≡ capped (volume p.sides * p.weight) → k ≡ capped (m + v) → j ≡ max h p.weight →
-        record { question = q; answer = a; pieces = set ns x n; mass = k; heaviest = j } ≡ tallied (record { question = q; answer = a; pieces = ns; mass = m; heaviest = h }) p
+    pub tally_yes : (v k j : ℕ) → x ≡ a → v ≡ capped (volume p.sides * p.weight) → k ≡ capped (m + v) → j ≡ max h p.weight →
+        record { question = q; answer = a; pieces = set ns i n; mass = k; heaviest = j } ≡ tallied (record { question = q; answer = a; pieces = ns; mass = m; heaviest = h }) p
     unfolding tallied
-    tally_yes v k j e f g l =
-        let c = ap (λ z. cond z (capped (m + capped (volume p.sides * p.weight))) m) (wanted a true e) in
-        let d = ap (λ z. cond z (max h p.weight) h) (wanted a true e) in
-        λ i. record { question = q; answer = a; pieces = count_is i; mass = (g ∙ ap (λ z. capped (m + z)) f ∙ sym c) i; heaviest = (l ∙ sym d) i }
+    tally_yes v k j e f g l = let y = yes a e in let c = count_is in simp (y, c, g, f, l)
 
-    pub tally_no : false ≡ eqb x a → record { question = q; answer = a; pieces = set ns x n; mass = m; heaviest = h } ≡ tallied (record { question = q; answer = a; pieces = ns; mass = m; heaviest = h }) p
+    pub tally_no : (x ≢ a) → record { question = q; answer = a; pieces = set ns i n; mass = m; heaviest = h } ≡ tallied (record { question = q; answer = a; pieces = ns; mass = m; heaviest = h }) p
     unfolding tallied
-    tally_no e =
-        let c = ap (λ z. cond z (capped (m + capped (volume p.sides * p.weight))) m) (wanted a false e) in
-        let d = ap (λ z. cond z (max h p.weight) h) (wanted a false e) in
-        λ i. record { question = q; answer = a; pieces = count_is i; mass = sym c i; heaviest = sym d i }
+    tally_no d = let y = no a d in let c = count_is in simp (y, c)
 
-pub press_is : (x : List Side) (f : ℕ) (p : WeightedBox) (s : List ℕ) (b : Bool) (w : ℕ) → s ≡ corner p.sides → b ≡ inside x s → w ≡ cond b (capped (p.weight * f)) p.weight → record { sides = p.sides; weight = w } ≡ capped_piece x f p
-unfolding capped_piece
-press_is x f p s b w at i e = ap (λ z. record { sides = p.sides; weight = z }) (e ∙ ap (λ z. cond z (capped (p.weight * f)) p.weight) (i ∙ ap (inside x) at))
+module _ (x : List Side) (f : ℕ) (p : WeightedBox) (s : List ℕ) (at : s ≡ corner p.sides) where
+  pub press_yes : (w : ℕ) → true ≡ inside x s → w ≡ capped (p.weight * f) → record { sides = p.sides; weight = w } ≡ capped_piece x f p
+  unfolding capped_piece
+  press_yes w i e = let y = sym (i ∙ ap (inside x) at) in simp (y, e)
+
+  pub press_no : false ≡ inside x s → p ≡ capped_piece x f p
+  unfolding capped_piece
+  press_no i = let n = sym (i ∙ ap (inside x) at) in simp n

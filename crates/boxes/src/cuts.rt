@@ -1,6 +1,6 @@
 // How steps cut boxes, and to whom the pieces go.
-ghost use Rattle.std.specs.Prelude.{◌≡◌, ◌+◌, ◌<◌, true, fold};
-ghost use Rattle.ranges.specs.Pieces.{cuts_side, below, above, cuts, lower, upper, cut, cut_all};
+ghost use Rattle.std.specs.Prelude.{◌≡◌, ◌<◌, true, fold, slice_set};
+ghost use Rattle.ranges.specs.Pieces.{cuts_side, below, above, cuts, cut, cut_all};
 ghost use Rattle.ranges.specs.Changes.{edges};
 
 use crate::taking::Taker;
@@ -12,7 +12,7 @@ fn cuts_side(x: Side, v: u16) -> bool
     ensures is { result ≡ cuts_side x v }
     ensures small { result ≡ true → (0 < v) × (v < 256) }
 {
-    ((x.low as u16) < v) & (v <= x.high as u16)
+    u16::from(x.low) < v && v <= u16::from(x.high)
 }
 
 // The part of a side below v, and the part from v on.
@@ -46,24 +46,14 @@ fn is_cut(sides: [Side; 4], k: usize, v: u16) -> bool
     cuts_side(sides[k], v)
 }
 
-// The part of a box whose values in field k are less than v.
-fn lower_of(b: WeightedBox, k: usize, v: u8) -> WeightedBox
-    requires { (k < 4) × (0 < v) }
-    ensures { result ≡ record { sides = lower b.sides k v; weight = b.weight } }
-{
-    let mut r = b;
-    r.sides[k] = below_of(b.sides[k], v);
-    r
-}
-
-// The part of a box whose values in field k are v and more.
-fn upper_of(b: WeightedBox, k: usize, v: u8) -> WeightedBox
+// A box with another side k.
+fn with_side(b: WeightedBox, k: usize, x: Side) -> WeightedBox
     requires { k < 4 }
-    ensures { result ≡ record { sides = upper b.sides k v; weight = b.weight } }
+    ensures { result ≡ record { sides = slice_set b.sides k x; weight = b.weight } }
 {
-    let mut r = b;
-    r.sides[k] = above_of(b.sides[k], v);
-    r
+    let mut part = b;
+    part.sides[k] = x;
+    part
 }
 
 // Hands on the pieces of a box under some steps.
@@ -74,11 +64,11 @@ fn hand_pieces<T: Taker>(steps: &[Step], b: WeightedBox, out: &mut T)
         out.take(b);
         return;
     };
-    let k = step.field as usize;
+    let k = usize::from(step.field);
     if is_cut(b.sides, k, step.bound) {
         let v = step.bound as u8;
-        hand_pieces(rest, lower_of(b, k, v), out);
-        hand_pieces(rest, upper_of(b, k, v), out);
+        hand_pieces(rest, with_side(b, k, below_of(b.sides[k], v)), out);
+        hand_pieces(rest, with_side(b, k, above_of(b.sides[k], v)), out);
     } else {
         hand_pieces(rest, b, out);
     }
@@ -99,32 +89,20 @@ pub(crate) fn edges_of(sides: [Side; 4]) -> [Step; 8]
 {
     let [x, y, z, w] = sides;
     [
-        starts(0, x),
-        ends(0, x),
-        starts(1, y),
-        ends(1, y),
-        starts(2, z),
-        ends(2, z),
-        starts(3, w),
-        ends(3, w),
+        edge(0, u16::from(x.low)),
+        edge(0, u16::from(x.high) + 1),
+        edge(1, u16::from(y.low)),
+        edge(1, u16::from(y.high) + 1),
+        edge(2, u16::from(z.low)),
+        edge(2, u16::from(z.high) + 1),
+        edge(3, u16::from(w.low)),
+        edge(3, u16::from(w.high) + 1),
     ]
 }
 
-// The steps at the two edges of side k.
-fn starts(k: u8, x: Side) -> Step
-    ensures { result ≡ record { field = k; bound = x.low } }
+// A step at an edge of side k.
+fn edge(k: u8, bound: u16) -> Step
+    ensures { result ≡ record { field = k; bound = bound } }
 {
-    Step {
-        field: k,
-        bound: x.low as u16,
-    }
-}
-
-fn ends(k: u8, x: Side) -> Step
-    ensures { result ≡ record { field = k; bound = x.high + 1 } }
-{
-    Step {
-        field: k,
-        bound: x.high as u16 + 1,
-    }
+    Step { field: k, bound }
 }

@@ -11,7 +11,7 @@ fn width_of(x: Side) -> u64
     ensures is { result ≡ width x }
     ensures small { result ≤ 256 }
 {
-    (x.high as u64 + 1).saturating_sub(x.low as u64)
+    (u64::from(x.high) + 1).saturating_sub(u64::from(x.low))
 }
 
 // How many sheets a box has.
@@ -38,52 +38,32 @@ pub(crate) fn corner_of(sides: [Side; 4]) -> [u8; 4]
     [x.low, y.low, z.low, w.low]
 }
 
-// Whether a value lies in a side.
-fn is_within(x: Side, v: u8) -> bool
-    ensures { result ≡ within x v }
-{
-    (x.low <= v) & (v <= x.high)
-}
-
 // Whether a sheet lies in a box.
 pub(crate) fn is_inside(sides: [Side; 4], sheet: [u8; 4]) -> bool
     ensures { result ≡ inside sides sheet }
 {
-    let [x, y, z, w] = sides;
-    let [a, b, c, d] = sheet;
-    is_within(x, a) & (is_within(y, b) & (is_within(z, c) & is_within(w, d)))
-}
-
-// Whether a side is not empty and does not pass its top.
-fn side_fits(x: Side, top: u8) -> bool
-    ensures { result ≡ (nat_le x.low x.high && nat_le x.high top) }
-{
-    (x.low <= x.high) & (x.high <= top)
+    sides
+        .iter()
+        .zip(&sheet)
+        .all(|(x, v)| x.low <= *v && *v <= x.high)
 }
 
 // Whether a box is not empty and does not pass the tops.
 pub(crate) fn box_fits(tops: [u8; 4], sides: [Side; 4]) -> bool
     ensures { result ≡ fits tops sides }
 {
-    let [a, b, c, d] = tops;
-    let [x, y, z, w] = sides;
-    side_fits(x, a) & (side_fits(y, b) & (side_fits(z, c) & side_fits(w, d)))
-}
-
-// Whether all values of one side lie below all of the other.
-fn sides_apart(x: Side, y: Side) -> bool
-    ensures { result ≡ (nat_lt x.high y.low || nat_lt y.high x.low) }
-{
-    (x.high < y.low) | (y.high < x.low)
+    tops.iter()
+        .zip(&sides)
+        .all(|(top, x)| x.low <= x.high && x.high <= *top)
 }
 
 // Whether two boxes have sides that are apart.
 pub(crate) fn boxes_apart(left: [Side; 4], right: [Side; 4]) -> bool
     ensures { result ≡ apart left right }
 {
-    let [a, b, c, d] = left;
-    let [x, y, z, w] = right;
-    sides_apart(a, x) | (sides_apart(b, y) | (sides_apart(c, z) | sides_apart(d, w)))
+    left.iter()
+        .zip(&right)
+        .any(|(x, y)| x.high < y.low || y.high < x.low)
 }
 
 // The box from a lowest to a highest value for each field.
@@ -104,13 +84,7 @@ pub(crate) fn sides_between(lowest: [u8; 4], highest: [u8; 4]) -> [Side; 4]
 pub(crate) fn entire_of(tops: [u8; 4]) -> [Side; 4]
     ensures { result ≡ entire tops }
 {
-    let [a, b, c, d] = tops;
-    [
-        Side { low: 0, high: a },
-        Side { low: 0, high: b },
-        Side { low: 0, high: c },
-        Side { low: 0, high: d },
-    ]
+    sides_between([0; 4], tops)
 }
 
 // One box of all sheets, of weight 1.

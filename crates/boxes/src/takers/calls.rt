@@ -39,8 +39,9 @@ impl Taker for Tally {
 
     fn take(&mut self, piece: WeightedBox) {
         let given = self.question.answer(corner_of(piece.sides));
-        self.pieces[given as usize] = self.pieces[given as usize].saturating_add(1);
-        if is_wanted(given, self.answer) {
+        let place = usize::from(given);
+        self.pieces[place] = self.pieces[place].saturating_add(1);
+        if given == self.answer {
             self.mass = self.mass.saturating_add(mass_of(piece));
             self.heaviest = self.heaviest.max(piece.weight);
         }
@@ -51,8 +52,7 @@ impl Taker for Sieve {
     ghost taken = { sifted };
 
     fn take(&mut self, piece: WeightedBox) {
-        let given = self.question.answer(corner_of(piece.sides));
-        if is_wanted(given, self.answer) {
+        if self.question.answer(corner_of(piece.sides)) == self.answer {
             self.kept.push(piece);
         }
     }
@@ -64,11 +64,9 @@ impl Press {
         ensures { result ≡ capped_piece self.now.around self.now.factor piece }
     {
         let mut pressed = piece;
-        pressed.weight = scaled(
-            is_inside(self.around, corner_of(piece.sides)),
-            piece.weight,
-            self.factor,
-        );
+        if is_inside(self.around, corner_of(piece.sides)) {
+            pressed.weight = piece.weight.saturating_mul(self.factor);
+        }
         pressed
     }
 }
@@ -79,23 +77,5 @@ impl Taker for Press {
     fn take(&mut self, piece: WeightedBox) {
         let pressed = self.press(piece);
         self.kept.push(pressed);
-    }
-}
-
-// Whether the answer that was given is the one asked for.
-fn is_wanted(given: u8, answer: u8) -> bool
-    ensures { result ≡ (given == answer) }
-{
-    given == answer
-}
-
-// A weight, multiplied if it lies inside, as far as 64 bits hold it.
-fn scaled(inside: bool, weight: u64, factor: u64) -> u64
-    ensures { result ≡ (if inside then capped (weight * factor) else weight) }
-{
-    if inside {
-        weight.saturating_mul(factor)
-    } else {
-        weight
     }
 }

@@ -8,9 +8,9 @@ returns-in_default g t c = hand_last g.T.Taker.taken c.args.out.now _ c.args.ste
 
 pub returns-then-is_cut : goal.returns-then-is_cut
 returns-then-is_cut g t c =
-    hand_parts g.T.Taker.taken c.args.out.now c.hand_pieces.new.out _ c.args.steps.now c.args.b c.lower_of.result c.upper_of.result
-    (search rules) c.if-is_cut.ensures.is c.lower_of.ensures c.upper_of.ensures c.hand_pieces.ensures c.hand_pieces-then-is_cut.ensures
+    hand_parts g.T.Taker.taken c.args.steps.now c.args.b _ (search rules) c.from-k.ensures c.args.out.now c.hand_pieces.new.out _ c.with_side.result c.with_side-then-is_cut.result _ _
+    c.if-is_cut.ensures.is c.below_of.ensures c.with_side.ensures c.above_of.ensures c.with_side-then-is_cut.ensures c.hand_pieces.ensures c.hand_pieces-then-is_cut.ensures
 
 pub returns-else-is_cut : goal.returns-else-is_cut
 returns-else-is_cut g t c =
-    hand_whole g.T.Taker.taken c.args.out.now _ c.args.steps.now c.args.b (search rules) c.if-is_cut.ensures.is c.hand_pieces-else-is_cut.ensures
+    hand_whole g.T.Taker.taken c.args.steps.now c.args.b _ (search rules) c.from-k.ensures c.args.out.now _ c.if-is_cut.ensures.is c.hand_pieces-else-is_cut.ensures

@@ -1,7 +1,7 @@
--- The four sides of the box of all sheets.
-use Rattle.std.proofs.Common.{rules}
-use Rattle.boxes.proofs.Fours.{four_entire}
+-- The box of all sheets lies between nothing and the tops.
+use Rattle.std.proofs.Common.{◌∙◌, rules}
+use Rattle.boxes.proofs.Fours.{between_entire}
 use Rattle.boxes.proofs.measures.entire_of.Goals as goal
 
 pub returns : goal.returns
-returns c = four_entire c.args.tops (search rules)
+returns c = c.sides_between.ensures ∙ between_entire c.args.tops (search rules)
