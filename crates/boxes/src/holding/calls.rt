@@ -50,9 +50,7 @@ impl Boxes {
         ensures carries { is_some result ≡ carried self.now.span.first self.now.span.count (held self.now) (text question) }
         ensures weighs { IfSome result (λ t. Weighed t (revised_boxes (text question) answer (held self.now))) }
     {
-        let Some(steps) = question.steps() else {
-            return None;
-        };
+        let steps = question.steps()?;
         if !question.reads_in(self.span.first, self.span.count) {
             return None;
         }
@@ -72,10 +70,7 @@ impl Boxes {
             mapped (λ t. t.heaviest) (reply result) ≡ replied (meaning self.now) question.now (heaviest_of (meaning self.now) question.now answer) }
     {
         let question = Question::read(question)?;
-        match self.tally(question, answer) {
-            Some(tally) => Ok(tally),
-            None => Err(Refusal::NotCarried),
-        }
+        self.tally(question, answer).ok_or(Refusal::NotCarried)
     }
 
     // The pieces under a stepped question that give the answer.
