@@ -1,6 +1,6 @@
 // How steps cut boxes, and to whom the pieces go.
 ghost use Rattle.std.specs.Prelude.{◌≡◌, ◌<◌, true, fold, slice_set};
-ghost use Rattle.ranges.specs.Pieces.{cuts_side, below, above, cuts, cut, cut_all};
+ghost use Rattle.ranges.specs.Pieces.{cuts_side, cuts, cut, cut_all};
 ghost use Rattle.ranges.specs.Changes.{edges};
 
 use crate::taking::Taker;
@@ -13,26 +13,6 @@ fn cuts_side(x: Side, v: u16) -> bool
     ensures small { result ≡ true → (0 < v) × (v < 256) }
 {
     u16::from(x.low) < v && v <= u16::from(x.high)
-}
-
-// The part of a side below v, and the part from v on.
-fn below_of(x: Side, v: u8) -> Side
-    requires { 0 < v }
-    ensures { result ≡ below x v }
-{
-    Side {
-        low: x.low,
-        high: v - 1,
-    }
-}
-
-fn above_of(x: Side, v: u8) -> Side
-    ensures { result ≡ above x v }
-{
-    Side {
-        low: v,
-        high: x.high,
-    }
 }
 
 // Whether side k of a box is cut between v - 1 and v.
@@ -67,8 +47,9 @@ fn hand_pieces<T: Taker>(steps: &[Step], b: WeightedBox, out: &mut T)
     let k = usize::from(step.field);
     if is_cut(b.sides, k, step.bound) {
         let v = step.bound as u8;
-        hand_pieces(rest, with_side(b, k, below_of(b.sides[k], v)), out);
-        hand_pieces(rest, with_side(b, k, above_of(b.sides[k], v)), out);
+        let x = b.sides[k];
+        hand_pieces(rest, with_side(b, k, Side { high: v - 1, ..x }), out);
+        hand_pieces(rest, with_side(b, k, Side { low: v, ..x }), out);
     } else {
         hand_pieces(rest, b, out);
     }

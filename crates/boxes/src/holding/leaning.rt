@@ -69,7 +69,7 @@ impl Boxes {
 fn good_factor(factor: u32) -> bool
     ensures { result ≡ good_factor factor }
 {
-    (2 <= factor) & (factor <= 255)
+    (2..=255).contains(&factor)
 }
 
 // Whether boxes are few enough, and light enough together.

@@ -1,10 +1,6 @@
 -- The pieces of all boxes go on one after another.
-use Rattle.std.proofs.Common.{refl}
 use Rattle.boxes.proofs.Handing.{hand_more, hand_end}
 use Rattle.boxes.proofs.cuts.hand_all.Goals as goal
-
-pub loop-b-init : goal.loop-b-init
-loop-b-init g c = refl
 
 pub loop-b-preserved : goal.loop-b-preserved
 loop-b-preserved g c =

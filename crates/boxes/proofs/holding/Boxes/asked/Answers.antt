@@ -1,7 +1,6 @@
 -- A question that is carried is tallied, any other refused.
-use Rattle.std.proofs.Common.{◌≡◌, ℕ, Bool, true, false, List, Some, None, Option, Result, ap, ◌∙◌}
+use Rattle.std.proofs.Common.{◌≡◌, ℕ, List, Some, None, Option}
 use Rattle.std.specs.Option.{is_some, IfSome, ok_or}
-use Rattle.refusal.specs.declared.list.Refusal.{Refusal}
 use Rattle.refusal.specs.declared.list.Refusal.TheVariants.{NotCarried}
 use Rattle.refusal.specs.Replies.{reply, mapped, given}
 use Rattle.question.specs.declared.checked.Question.{Question}
