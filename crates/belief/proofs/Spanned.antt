@@ -1,14 +1,16 @@
 -- Spans of fields, four values with 0 outside one, and good totals.
-use Rattle.std.specs.Prelude.{◌≡◌, ℕ, zero, suc, ◌+◌, ◌<◌, ◌≤◌, Bool, true, false, cond, ◌&&◌, ◌||◌, List, length, ◌==◌, nat_le, slice_index, refl}
+use Rattle.std.specs.Prelude.{◌≡◌, ℕ, zero, suc, ◌+◌, ◌<◌, ◌≤◌, Bool, true, false, cond, not, ◌&&◌, ◌||◌, None, Option, List, length, ◌==◌, nat_le, slice_index, refl}
 use Rattle.std.specs.Str.{bytes_eq}
 use Rattle.std.proofs.Common.{sym, ap, ◌∙◌, inl, inr, arith, leb-true, le-leb, eqb-true}
 use Rattle.std.proofs.lemmas.List.{get_or_past}
 use Rattle.std.proofs.lemmas.Bool.{cases_lt}
 use Rattle.question.specs.Questions.{in_span, all_below}
 use Rattle.question.proofs.Questions.{and_left, and_right, below_at}
+use Rattle.refusal.specs.Replies.{Reply, given, declined, refuse_if}
+use Rattle.belief.specs.declared.spans.Span.{Span}
 use Rattle.belief.specs.Meaning.{Agree}
-use Rattle.belief.specs.Spans.{good_span, zero_outside, span_value, span_only, most_total, good_total}
-use Rattle.belief.proofs.Fours.{fours, four_of}
+use Rattle.belief.specs.Spans.{good_span, zero_outside, span_value, span_only, span_made, most_total, good_total}
+use Rattle.belief.proofs.Fours.{fours}
 
 -- ---- what the tests of a span and of a total say
 
@@ -105,3 +107,26 @@ only_same f c s l =
     let d = kept_or (in_span f c 2) (slice_index s 2) in
     let e = kept_or (in_span f c 3) (slice_index s 3) in
     ap (λ z. bytes_eq (span_only f c s) z) (fours s l) ∙ simp (a, b, d, e) (conjoined (in_span f c 0 || slice_index s 0 == 0) (in_span f c 1 || slice_index s 1 == 0) (in_span f c 2 || slice_index s 2 == 0) (in_span f c 3 || slice_index s 3 == 0))
+
+-- ---- what making a span replied
+
+made_by : (a b : Bool) (s r : Span) → ◌≡◌ {A = Reply Span} (given s) (refuse_if (not a) 1 (refuse_if (not b) 2 (given r))) → (a ≡ true) × (b ≡ true) × (s ≡ r)
+made_by true true s r e = let k : s ≡ r = cc in (refl, refl, k)
+made_by true false s r e = let k : ◌≡◌ {A = ℕ} 0 1 = cc in absurd (omega arith)
+made_by false b s r e = let k : ◌≡◌ {A = ℕ} 0 1 = cc in absurd (omega arith)
+
+-- a span that was made passed both tests
+pub made_span : (f c : ℕ) (tops : List ℕ) (s : Span) → ◌≡◌ {A = Reply Span} (given s) (span_made f c tops) →
+    (good_span f c ≡ true) × (zero_outside f c tops ≡ true) × (s ≡ record { first = f; count = c; tops = tops })
+made_span f c tops s e = made_by (good_span f c) (zero_outside f c tops) s _ e
+
+refused_by : {A : Type 0} (a b : Bool) (n : ℕ) (p : Option ℕ) (r : Span) (next : Reply A) → ◌≡◌ {A = Reply Span} (declined n p) (refuse_if (not a) 1 (refuse_if (not b) 2 (given r))) →
+    ◌≡◌ {A = Reply A} (declined n p) (refuse_if (not a) 1 (refuse_if (not b) 2 next))
+refused_by true true n p r next e = let k : ◌≡◌ {A = ℕ} 0 1 = cc in absurd (omega arith)
+refused_by true false n p r next e = let i : n ≡ 2 = cc in let j : p ≡ None = cc in cc
+refused_by false b n p r next e = let i : n ≡ 1 = cc in let j : p ≡ None = cc in cc
+
+-- and a refused one is refused whatever is made over it
+pub refused_span : {A : Type 0} (f c : ℕ) (tops : List ℕ) (n : ℕ) (p : Option ℕ) (next : Reply A) → ◌≡◌ {A = Reply Span} (declined n p) (span_made f c tops) →
+    ◌≡◌ {A = Reply A} (declined n p) (refuse_if (not (good_span f c)) 1 (refuse_if (not (zero_outside f c tops)) 2 next))
+refused_span f c tops n p next e = refused_by (good_span f c) (zero_outside f c tops) n p _ next e

@@ -6,8 +6,9 @@ use Rattle.question.specs.Expressions.{truth, clamped}
 use Rattle.question.specs.Reading.{reading}
 use Rattle.question.specs.Questions.{answers, reads_in, reads_field, in_span, all_below}
 use Rattle.belief.specs.Meaning.{total_of, peak_of, whole_of, mass_of, heaviest_of, kept, gives, conditioned}
-use Rattle.table.specs.Places.{size_of, place_of, fits_in, span_value, span_only}
-use Rattle.table.specs.Tables.{weight_in, zero_outside}
+use Rattle.belief.specs.Spans.{span_value, span_only, zero_outside}
+use Rattle.table.specs.Places.{size_of, place_of, fits_in}
+use Rattle.table.specs.Tables.{weight_in}
 use Rattle.history.specs.Events.{asks, Past}
 use Rattle.history.specs.Judging.{some_below, telling}
 use Rattle.history.specs.Stated.{enrol_reply, ask_reply}

@@ -36,48 +36,48 @@ held_few tops ws us e = let l : length us ≡ min (min (size_of tops) 1024) (len
 
 -- a loop over the weights that are held came to its end
 pub record Walked (t : Table) (us : List ℕ) (n : ℕ) : Type 0 where
-  pub held : us ≡ take (min (size_of t.tops) 1024) t.weights
+  pub held : us ≡ take (min (size_of t.span.tops) 1024) t.weights
   pub done : length us ≤ n
   pub most : n ≤ length us
 
 module _ (t : Table) (s : Shaped t) (us : List ℕ) (n : ℕ) (w : Walked t us n) where
-  shape : Shape t.first t.count t.tops
-  shape = shape_of t.first t.count t.tops t.four s.is
+  shape : Shape t.span.first t.span.count t.span.tops
+  shape = shape_of t.span.first t.span.count t.span.tops t.four s.is
 
-  ends : n ≡ size_of t.tops
+  ends : n ≡ size_of t.span.tops
   ends =
       let k = shape.small in let p = t.places in let d = w.done in let m = w.most in
-      let l : length us ≡ min (min (size_of t.tops) 1024) (length t.weights) = ap length w.held ∙ length-take (min (size_of t.tops) 1024) t.weights in omega arith
+      let l : length us ≡ min (min (size_of t.span.tops) 1024) (length t.weights) = ap length w.held ∙ length-take (min (size_of t.span.tops) 1024) t.weights in omega arith
 
-  held_at : (i : ℕ) → i < size_of t.tops → get_or us i 0 ≡ weight_in t.first t.count t.tops t.weights (sheet_at t.tops i)
+  held_at : (i : ℕ) → i < size_of t.span.tops → get_or us i 0 ≡ weight_in t.span.first t.span.count t.span.tops t.weights (sheet_at t.span.tops i)
   held_at i h =
       let k = shape.small in
-      ap (λ z. get_or z i 0) w.held ∙ get_or-take (min (size_of t.tops) 1024) t.weights i 0 (omega arith) ∙ weight_at_place t.first t.count t.tops shape t.weights i h
+      ap (λ z. get_or z i 0) w.held ∙ get_or-take (min (size_of t.span.tops) 1024) t.weights i 0 (omega arith) ∙ weight_at_place t.span.first t.span.count t.span.tops shape t.weights i h
 
   pub total_walked : (x : ℕ) → x ≡ fold_below plus 0 n (λ i. get_or us i 0) → x ≡ total_of (meaning t)
   unfolding total_of
-  total_walked x e = gathered plus 0 plus_folds t.tops _ _ n x e ends held_at
+  total_walked x e = gathered plus 0 plus_folds t.span.tops _ _ n x e ends held_at
 
   pub peak_walked : (x : ℕ) → x ≡ fold_below max 0 n (λ i. get_or us i 0) → x ≡ peak_of (meaning t)
   unfolding peak_of
-  peak_walked x e = gathered max 0 max_folds t.tops _ _ n x e ends held_at
+  peak_walked x e = gathered max 0 max_folds t.span.tops _ _ n x e ends held_at
 
   pub whole_walked : (x : Bool) → x ≡ all_below n (λ i. nat_le 1 (get_or us i 0)) → x ≡ whole_of (meaning t)
   unfolding whole_of
-  whole_walked x e = gathered both true both_folds t.tops _ _ n x (e ∙ all_folds n _) ends (λ i h. ap (nat_le 1) (held_at i h))
+  whole_walked x e = gathered both true both_folds t.span.tops _ _ n x (e ∙ all_folds n _) ends (λ i h. ap (nat_le 1) (held_at i h))
 
   module _ (q : List ℕ) (a : ℕ) where
-    share_held : (i : ℕ) → i < size_of t.tops → share_at q a t.tops us i ≡ kept q a (meaning t).weight (sheet_at t.tops i)
+    share_held : (i : ℕ) → i < size_of t.span.tops → share_at q a t.span.tops us i ≡ kept q a (meaning t).weight (sheet_at t.span.tops i)
     unfolding share_at kept
-    share_held i h = ap (λ z. cond (eqb (answers q (sheet_at t.tops i)) a) z 0) (held_at i h)
+    share_held i h = ap (λ z. cond (eqb (answers q (sheet_at t.span.tops i)) a) z 0) (held_at i h)
 
-    pub mass_walked : (x : ℕ) → x ≡ fold_below plus 0 n (share_at q a t.tops us) → x ≡ mass_of (meaning t) q a
+    pub mass_walked : (x : ℕ) → x ≡ fold_below plus 0 n (share_at q a t.span.tops us) → x ≡ mass_of (meaning t) q a
     unfolding mass_of
-    mass_walked x e = gathered plus 0 plus_folds t.tops _ _ n x e ends share_held
+    mass_walked x e = gathered plus 0 plus_folds t.span.tops _ _ n x e ends share_held
 
-    pub heaviest_walked : (x : ℕ) → x ≡ fold_below max 0 n (share_at q a t.tops us) → x ≡ heaviest_of (meaning t) q a
+    pub heaviest_walked : (x : ℕ) → x ≡ fold_below max 0 n (share_at q a t.span.tops us) → x ≡ heaviest_of (meaning t) q a
     unfolding heaviest_of
-    heaviest_walked x e = gathered max 0 max_folds t.tops _ _ n x e ends share_held
+    heaviest_walked x e = gathered max 0 max_folds t.span.tops _ _ n x e ends share_held
 
 -- ---- writing
 

@@ -1,11 +1,9 @@
 -- Places and sheets.
-use Rattle.std.specs.Prelude.{◌≡◌, ℕ, zero, suc, ◌+◌, ◌*◌, ◌/◌, ◌%◌, ◌<◌, ◌≤◌, Bool, true, false, cond, List, [], ◌∷◌, length, nat_le, slice_index, refl}
+use Rattle.std.specs.Prelude.{◌≡◌, ℕ, zero, suc, ◌+◌, ◌*◌, ◌/◌, ◌%◌, ◌<◌, ◌≤◌, Bool, true, false, List, [], ◌∷◌, length, nat_le, slice_index, refl}
 use Rattle.std.proofs.Common.{ap, ◌∙◌, arith, add-mul, one-mul, mod-lt, div-lt_iff_lt-mul, mul-le-mul_right, leb-true, le-leb}
 use Rattle.std.proofs.lemmas.Nat.{div-add-mod', div-mul-add, mod-mul-add}
-use Rattle.question.specs.Questions.{in_span}
 use Rattle.question.proofs.Questions.{and_left, and_right}
-use Rattle.belief.specs.Meaning.{Agree}
-use Rattle.table.specs.Places.{size_of, place_of, fits_in, span_only, span_value}
+use Rattle.table.specs.Places.{size_of, place_of, fits_in}
 use Rattle.table.specs.Folds.{sheet_at}
 
 pub size_pos : (ts : List ℕ) → 0 < size_of ts
@@ -83,32 +81,3 @@ sheet_place (t ∷ ts) (v ∷ s) l e =
     let m = mod-mul-add v (size_of ts) (place_of ts s) p in
     let r = sheet_place ts s (omega arith) (and_right (nat_le v t) (fits_in ts s) e) in
     ap (λ x. x ∷ sheet_at ts ((v * size_of ts + place_of ts s) % size_of ts)) d ∙ ap (λ x. v ∷ sheet_at ts x) m ∙ ap (λ x. v ∷ x) r
-
--- ---- the values of a span
-
-value_in : (f c k : ℕ) (s t : List ℕ) → Agree f c s t → (b : Bool) → in_span f c k ≡ b → span_value f c s k ≡ span_value f c t k
-unfolding span_value
-value_in f c k s t h true e = ap (λ z. cond (in_span f c k) z 0) (h k e)
-value_in f c k s t h false e = simp e
-
-pub span_agree : (f c : ℕ) (s t : List ℕ) → Agree f c s t → span_only f c s ≡ span_only f c t
-unfolding span_only
-span_agree f c s t h =
-    let x0 = value_in f c 0 s t h _ refl in let x1 = value_in f c 1 s t h _ refl in
-    let x2 = value_in f c 2 s t h _ refl in let x3 = value_in f c 3 s t h _ refl in cc
-
-pub span_inside : (f c k : ℕ) → in_span f c k ≡ true → k < f + c
-unfolding in_span
-span_inside f c k e = grind arith
-
-pub span_same : (f c : ℕ) (s : List ℕ) → f + c ≤ 4 → Agree f c s (span_only f c s)
-unfolding span_only span_value
-span_same f c s h zero e = simp e
-span_same f c s h (suc zero) e = simp e
-span_same f c s h (suc (suc zero)) e = simp e
-span_same f c s h (suc (suc (suc zero))) e = simp e
-span_same f c s h (suc (suc (suc (suc k)))) e = let i = span_inside f c (suc (suc (suc (suc k)))) e in absurd (omega arith)
-
-pub span_length : (f c : ℕ) (s : List ℕ) → length (span_only f c s) ≡ 4
-unfolding span_only
-span_length f c s = refl

@@ -1,6 +1,5 @@
 -- The sheets of a table in their order: the last field moves fastest. Assumes nothing.
-use Rattle.std.specs.Prelude.{ℕ, ◌+◌, ◌*◌, Bool, true, cond, ◌&&◌, List, [], ◌∷◌, ◌++◌, nat_le, slice_index}
-use Rattle.question.specs.Questions.{in_span}
+use Rattle.std.specs.Prelude.{ℕ, ◌+◌, ◌*◌, Bool, true, ◌&&◌, List, [], ◌∷◌, ◌++◌, nat_le}
 use Rattle.belief.specs.Sheets.{over_sheets}
 
 -- the weights of all sheets within the tops, the last field moving fastest
@@ -23,12 +22,3 @@ unfoldable pub fits_in : List ℕ → List ℕ → Bool
 fits_in [] s = true
 fits_in (t ∷ ts) [] = true
 fits_in (t ∷ ts) (v ∷ s) = nat_le v t && fits_in ts s
-
--- a value of the span, 0 outside
-unfoldable pub span_value : ℕ → ℕ → List ℕ → ℕ → ℕ
-span_value first count s k = cond (in_span first count k) (slice_index s k) 0
-
--- the four values with 0 outside the span
-unfoldable pub span_only : ℕ → ℕ → List ℕ → List ℕ
-span_only first count s =
-    span_value first count s 0 ∷ span_value first count s 1 ∷ span_value first count s 2 ∷ span_value first count s 3 ∷ []

@@ -1,7 +1,7 @@
 -- A sound table keeps the laws, and revising it revises its meaning.
 use Rattle.std.specs.Prelude.{◌≡◌, ℕ, zero, suc, ◌*◌, ◌^◌, ◌<◌, ◌≤◌, Bool, true, false, cond, ◌&&◌, nat_le, List, length, take, ◌==◌, slice_index}
 use Rattle.std.proofs.Math.Path.{refl, sym, ap}
-use Rattle.std.proofs.Common.{◌∙◌, arith, get_or-take, leb-true, le-leb, eqb-true}
+use Rattle.std.proofs.Common.{◌∙◌, arith, get_or-take, leb-true, eqb-true}
 use Rattle.refusal.specs.Replies.{given}
 use Rattle.question.specs.Questions.{in_span, answers, reads_in}
 use Rattle.question.proofs.Questions.{and_left, and_right, below_at, answers_span, step_inside}
@@ -9,32 +9,31 @@ use Rattle.belief.specs.Sheets.{sum_of, plus}
 use Rattle.belief.specs.Meaning.{Meaning, Laws, Agree, kept, total_of, mass_of, revised}
 use Rattle.belief.proofs.Sums.{mass_total}
 use Rattle.belief.proofs.Revisings.{ext, same}
+use Rattle.belief.specs.Spans.{good_span, zero_outside, span_only, good_total}
+use Rattle.belief.proofs.Spanned.{total_least, total_most, total_good, in_below, span_agree, span_same, span_length}
 use Rattle.table.specs.declared.held.Table.{Table}
-use Rattle.table.specs.Places.{size_of, place_of, fits_in, span_only}
-use Rattle.table.specs.Tables.{good_span, good_total, good_weight, good_weights, good_list, zero_outside, weight_in, shaped, tabled, meaning, table_made, Filled}
+use Rattle.table.specs.Places.{size_of, place_of, fits_in}
+use Rattle.table.specs.Tables.{good_weight, good_weights, good_list, weight_in, shaped, tabled, meaning, table_made, Filled}
 use Rattle.table.specs.Walks.{Shaped, Kept}
 use Rattle.table.specs.Folds.{fold_below}
-use Rattle.table.specs.Order.{size_pos, place_below, above_fits, span_agree, span_same, span_length, span_inside}
+use Rattle.table.specs.Order.{size_pos, place_below, above_fits}
 use Rattle.table.specs.Weights.{Shape, shape_of, weight_le, summed, item_le, in_order_again}
 
 -- what sound says
 pub shaped_of : (f c : ℕ) (tops : List ℕ) (t : ℕ) → (shaped f c tops && good_total t) ≡ true → shaped f c tops ≡ true
 shaped_of f c tops t e = and_left (shaped f c tops) (good_total t) e
 
-least_of : (b : Bool) (t : ℕ) → (b && good_total t) ≡ true → 1 ≤ t
-least_of b t e = leb-true 1 t (and_left (nat_le 1 t) (nat_le t (2 ^ 40)) (and_right b (good_total t) e))
-
-most_of : (b : Bool) (t : ℕ) → (b && good_total t) ≡ true → t ≤ 2 ^ 40
-most_of b t e = leb-true t (2 ^ 40) (and_right (nat_le 1 t) (nat_le t (2 ^ 40)) (and_right b (good_total t) e))
+good_sum : (f c : ℕ) (tops ws : List ℕ) → (tabled f c tops ws).sound ≡ true → good_total (sum_of tops (weight_in f c tops ws)) ≡ true
+good_sum f c tops ws e = and_right (shaped f c tops) _ e
 
 sound_by : (b : Bool) (t : ℕ) → b ≡ true → 1 ≤ t → t ≤ 2 ^ 40 → (b && good_total t) ≡ true
-sound_by b t e h k = let a = le-leb 1 t h in let b = le-leb t (2 ^ 40) k in simp (e, a, b)
+sound_by b t e h k = let g = total_good t h k in simp (e, g)
 
 pub sound_shape : (f c : ℕ) (tops ws : List ℕ) → length tops ≡ 4 → (tabled f c tops ws).sound ≡ true → Shape f c tops
 sound_shape f c tops ws l e = shape_of f c tops l (shaped_of f c tops (sum_of tops (weight_in f c tops ws)) e)
 
 pub shaped_is : (t : Table) → (meaning t).sound ≡ true → Shaped t
-shaped_is t e = record { is = shaped_of t.first t.count t.tops (sum_of t.tops (weight_in t.first t.count t.tops t.weights)) e }
+shaped_is t e = record { is = shaped_of t.span.first t.span.count t.span.tops (sum_of t.span.tops (weight_in t.span.first t.span.count t.span.tops t.weights)) e }
 
 -- ---- the laws
 
@@ -54,8 +53,8 @@ unfolding total_of
 table_laws f c tops ws l e =
     let p = sound_shape f c tops ws l e in
     record {
-      least = least_of (shaped f c tops) _ e;
-      most = most_of (shaped f c tops) _ e;
+      least = total_least _ (good_sum f c tops ws e);
+      most = total_most _ (good_sum f c tops ws e);
       some = p.some;
       fits = p.fits;
       four = l;
@@ -64,7 +63,7 @@ table_laws f c tops ws l e =
       above = λ s k i h. weight_above f c tops ws s k p i h;
       bounded = weight_le f c tops p ws;
       spans = λ q h. h;
-      simple = λ k v i b. let u = span_inside f c k i in let d = p.fits in step_inside f c k v (omega arith) b i;
+      simple = λ k v i b. let u = in_below f c k i in let d = p.fits in step_inside f c k v (omega arith) b i;
     }
 
 -- ---- what weight returns
@@ -81,10 +80,10 @@ weigh_is f c tops ws s own r at e h n p =
     let z : fits_in tops (span_only f c s) ≡ true = ap (fits_in tops) (sym e) ∙ sym h ∙ n in
     ap (λ x. slice_index ws x) (p ∙ ap (place_of tops) e) ∙ ap (λ b. cond b (slice_index ws (place_of tops (span_only f c s))) 0) (sym z)
 
-pub place_room : (t : Table) (s own : List ℕ) (r : Bool) (at : ℕ) → (meaning t).sound ≡ true → own ≡ span_only t.first t.count s → r ≡ fits_in t.tops own → r ≡ true → at ≡ place_of t.tops own → at < 1024
+pub place_room : (t : Table) (s own : List ℕ) (r : Bool) (at : ℕ) → (meaning t).sound ≡ true → own ≡ span_only t.span.first t.span.count s → r ≡ fits_in t.span.tops own → r ≡ true → at ≡ place_of t.span.tops own → at < 1024
 place_room t s own r at q e h n p =
-    let l : length own ≡ length t.tops = ap length e ∙ span_length t.first t.count s ∙ sym t.four in
-    let b = place_below t.tops own l (sym h ∙ n) in let k = (sound_shape t.first t.count t.tops t.weights t.four q).small in omega arith
+    let l : length own ≡ length t.span.tops = ap length e ∙ span_length t.span.first t.span.count s ∙ sym t.four in
+    let b = place_below t.span.tops own l (sym h ∙ n) in let k = (sound_shape t.span.first t.span.count t.span.tops t.weights t.four q).small in omega arith
 
 -- ---- revising
 
@@ -117,13 +116,13 @@ module _ (f c : ℕ) (tops ws us q : List ℕ) (a : ℕ) (l : length tops ≡ 4)
       let w : weight_in f c tops us ≡ kept q a (weight_in f c tops ws) = ext weights_kept in
       let t : sum_of tops (weight_in f c tops us) ≡ sum_of tops (kept q a (weight_in f c tops ws)) = ap (sum_of tops) w in
       let le : sum_of tops (kept q a (weight_in f c tops ws)) ≤ sum_of tops (weight_in f c tops ws) = mass_total (tabled f c tops ws) q a in
-      let most : sum_of tops (weight_in f c tops ws) ≤ 2 ^ 40 = most_of (shaped f c tops) _ e in
+      let most : sum_of tops (weight_in f c tops ws) ≤ 2 ^ 40 = total_most _ (good_sum f c tops ws e) in
       same _ _ refl refl refl w refl (sound_by (shaped f c tops) (sum_of tops (weight_in f c tops us)) (shaped_of f c tops (sum_of tops (weight_in f c tops ws)) e) (omega arith) (omega arith) ∙ sym e)
 
-pub kept_revised : (t u : Table) (q : List ℕ) (a : ℕ) → (meaning t).sound ≡ true → reads_in t.first t.count q ≡ true → 1 ≤ mass_of (meaning t) q a → Kept q a t u → meaning u ≡ revised (meaning t) q a
+pub kept_revised : (t u : Table) (q : List ℕ) (a : ℕ) → (meaning t).sound ≡ true → reads_in t.span.first t.span.count q ≡ true → 1 ≤ mass_of (meaning t) q a → Kept q a t u → meaning u ≡ revised (meaning t) q a
 kept_revised t u q a e r m k =
-    (λ i. tabled (k.first i) (k.count i) (k.tops i) u.weights)
-    ∙ table_revised t.first t.count t.tops t.weights u.weights q a t.four e r k.weights m
+    ap (λ z. tabled z.first z.count z.tops u.weights) k.span
+    ∙ table_revised t.span.first t.span.count t.span.tops t.weights u.weights q a t.four e r k.weights m
 
 -- ---- making
 

@@ -1,32 +1,21 @@
 -- What a table means, and when one is made. Assumes nothing.
-use Rattle.std.specs.Prelude.{◌≡◌, ℕ, ◌+◌, ◌^◌, Bool, true, cond, not, ◌&&◌, ◌||◌, List, length, ◌==◌, nat_le, slice_index}
+use Rattle.std.specs.Prelude.{◌≡◌, ℕ, Bool, true, cond, not, ◌&&◌, List, length, ◌==◌, nat_le, slice_index}
 use Rattle.refusal.specs.Replies.{Reply, given, refuse_if}
-use Rattle.question.specs.Questions.{in_span, reads_in, all_below}
+use Rattle.question.specs.Questions.{reads_in, all_below}
 use Rattle.belief.specs.Sheets.{sum_of}
 use Rattle.belief.specs.Meaning.{Meaning}
+use Rattle.belief.specs.Spans.{good_span, zero_outside, span_only, good_total}
 use Rattle.table.specs.declared.held.Table.{Table}
-use Rattle.table.specs.Places.{in_order, size_of, place_of, fits_in, span_only}
+use Rattle.table.specs.Places.{in_order, size_of, place_of, fits_in}
 
 -- the weight of four values: 0 if one of the span lies above its top; values outside the span are not looked at
 unfoldable pub weight_in : ℕ → ℕ → List ℕ → List ℕ → List ℕ → ℕ
 weight_in first count tops list s =
     cond (fits_in tops (span_only first count s)) (slice_index list (place_of tops (span_only first count s))) 0
 
--- whether a span has a field and ends with the last field at most
-abbrev pub good_span : ℕ → ℕ → Bool
-good_span first count = nat_le 1 count && nat_le (first + count) 4
-
--- whether the tops are 0 outside the span
-unfoldable pub zero_outside : ℕ → ℕ → List ℕ → Bool
-zero_outside first count tops = all_below 4 (λ k. in_span first count k || slice_index tops k == 0)
-
 -- whether span and tops are those of a table
 abbrev pub shaped : ℕ → ℕ → List ℕ → Bool
-shaped first count tops = good_span first count && (zero_outside first count tops && nat_le (size_of tops) 1024)
-
--- whether a total is that of a sound belief
-abbrev pub good_total : ℕ → Bool
-good_total total = nat_le 1 total && nat_le total (2 ^ 40)
+shaped first count tops = good_span first count && zero_outside first count tops && nat_le (size_of tops) 1024
 
 -- a table over a span, with a list of weights
 abbrev pub tabled : ℕ → ℕ → List ℕ → List ℕ → Meaning
@@ -41,7 +30,7 @@ tabled first count tops list = record {
 
 -- what a table means
 abbrev pub meaning : Table → Meaning
-meaning t = tabled t.first t.count t.tops t.weights
+meaning t = tabled t.span.first t.span.count t.span.tops t.weights
 
 -- ---- making
 

@@ -13,12 +13,10 @@ pub record Stands (tops s : List ℕ) (i : ℕ) : Type 0 where
 
 -- span and tops are those of a table
 pub record Shaped (t : Table) : Type 0 where
-  pub is : shaped t.first t.count t.tops ≡ true
+  pub is : shaped t.span.first t.span.count t.span.tops ≡ true
 
 -- each sheet that gives the answer keeps its weight, and each other gets 0
 pub record Kept (q : List ℕ) (a : ℕ) (t u : Table) : Type 0 where
-  pub first : u.first ≡ t.first
-  pub count : u.count ≡ t.count
-  pub tops : u.tops ≡ t.tops
-  pub weights : (s : List ℕ) → length s ≡ 4 → fits_in t.tops s ≡ true → place_of t.tops s < 1024 →
-      slice_index u.weights (place_of t.tops s) ≡ cond (answers q s == a) (slice_index t.weights (place_of t.tops s)) 0
+  pub span : u.span ≡ t.span
+  pub weights : (s : List ℕ) → length s ≡ 4 → fits_in t.span.tops s ≡ true → place_of t.span.tops s < 1024 →
+      slice_index u.weights (place_of t.span.tops s) ≡ cond (answers q s == a) (slice_index t.weights (place_of t.span.tops s)) 0

@@ -1,18 +1,19 @@
 -- What a table weighs, place by place.
-use Rattle.std.specs.Prelude.{◌≡◌, ℕ, zero, suc, ◌+◌, ◌<◌, ◌≤◌, Bool, true, false, cond, ◌&&◌, ◌||◌, List, [], ◌∷◌, ◌++◌, length, take, ◌==◌, nat_le, nat_lt, slice_index}
+use Rattle.std.specs.Prelude.{◌≡◌, ℕ, zero, suc, ◌+◌, ◌<◌, ◌≤◌, Bool, true, false, cond, ◌&&◌, List, [], ◌∷◌, ◌++◌, length, take, ◌==◌, slice_index}
 use Rattle.std.proofs.Math.Path.{refl, sym}
-use Rattle.std.proofs.Common.{ap, ◌∙◌, leb-true, eqb-true, ltb-true, ltb-false, take-suc}
+use Rattle.std.proofs.Common.{ap, ◌∙◌, leb-true, eqb-true, take-suc}
 use native.Mathlib.Omega.{arith}
 use Rattle.std.proofs.lemmas.Bool.{eqb-false}
-use Rattle.std.proofs.lemmas.List.{get_or_past, take_all}
+use Rattle.std.proofs.lemmas.List.{take_all}
 use Rattle.question.specs.Questions.{in_span}
-use Rattle.question.proofs.Questions.{and_left, and_right, impossible, below_at}
+use Rattle.question.proofs.Questions.{and_left, and_right}
 use Rattle.belief.specs.Sheets.{plus, sum_of}
-use Rattle.belief.proofs.Fours.{fours}
-use Rattle.table.specs.Places.{in_order, size_of, place_of, fits_in, span_only, span_value}
-use Rattle.table.specs.Tables.{weight_in, zero_outside, shaped}
+use Rattle.belief.specs.Spans.{good_span, zero_outside, span_only}
+use Rattle.belief.proofs.Spanned.{span_some, span_last, span_length, span_kept, zero_at}
+use Rattle.table.specs.Places.{in_order, size_of, place_of, fits_in}
+use Rattle.table.specs.Tables.{weight_in, shaped}
 use Rattle.table.specs.Folds.{sheet_at, fold_below, gathered, plus_folds, append_folds}
-use Rattle.table.specs.Order.{place_sheet, sheet_fits, sheet_below, sheet_length, place_below, span_length}
+use Rattle.table.specs.Order.{place_sheet, sheet_fits, sheet_below, sheet_length, place_below}
 
 -- what shaped says
 pub record Shape (f c : ℕ) (tops : List ℕ) : Type 0 where
@@ -22,23 +23,11 @@ pub record Shape (f c : ℕ) (tops : List ℕ) : Type 0 where
   pub small : size_of tops ≤ 1024
   pub four : length tops ≡ 4
 
-or_right : (a b : Bool) → a ≡ false → (a || b) ≡ true → b ≡ true
-or_right true b p e = impossible true p refl
-or_right false b p e = e
-
-zero_at : (f c : ℕ) (tops : List ℕ) → length tops ≡ 4 → zero_outside f c tops ≡ true → (k : ℕ) → in_span f c k ≡ false → (b : Bool) → nat_lt k 4 ≡ b → slice_index tops k ≡ 0
-unfolding zero_outside
-zero_at f c tops l e k o true is = eqb-true _ _ (or_right (in_span f c k) _ o (below_at 4 _ k e (ltb-true k 4 is)))
-zero_at f c tops l e k o false is = let h = ltb-false k 4 is in get_or_past tops k 0 (omega arith)
-
 pub shape_of : (f c : ℕ) (tops : List ℕ) → length tops ≡ 4 → shaped f c tops ≡ true → Shape f c tops
 shape_of f c tops l e =
-    let e1 = and_left (nat_le 1 c && nat_le (f + c) 4) _ e in let e2 = and_right (nat_le 1 c && nat_le (f + c) 4) _ e in
-    record { some = leb-true _ _ (and_left _ _ e1); fits = leb-true _ _ (and_right (nat_le 1 c) _ e1); out = λ k o. zero_at f c tops l (and_left _ _ e2) k o (nat_lt k 4) refl; small = leb-true _ _ (and_right (zero_outside f c tops) _ e2); four = l }
-
-value_kept : (f c k x : ℕ) → (in_span f c k ≡ false → x ≡ 0) → (b : Bool) → in_span f c k ≡ b → cond (in_span f c k) x 0 ≡ x
-value_kept f c k x h true e = simp e
-value_kept f c k x h false e = let z = h e in ap (λ b. cond b x 0) e ∙ sym z
+    let g = and_left (good_span f c && zero_outside f c tops) _ e in
+    let s = and_left (good_span f c) _ g in
+    record { some = span_some f c s; fits = span_last f c s; out = zero_at f c tops l (and_right (good_span f c) _ g); small = leb-true _ _ (and_right (good_span f c && zero_outside f c tops) _ e); four = l }
 
 -- a list gathered item by item
 listed : (n : ℕ) (xs : List ℕ) → n ≤ length xs → take n xs ≡ fold_below ◌++◌ [] n (λ i. slice_index xs i ∷ [])
@@ -58,12 +47,7 @@ item_le (suc n) g i h = last (λ k. item_le n g i k) (i == n) refl
 
 module _ (f c : ℕ) (tops : List ℕ) (p : Shape f c tops) where
   span_sheet : (i : ℕ) → i < size_of tops → span_only f c (sheet_at tops i) ≡ sheet_at tops i
-  unfolding span_only span_value
-  span_sheet i h =
-      let z : (k : ℕ) → in_span f c k ≡ false → slice_index (sheet_at tops i) k ≡ 0 = λ k o. let a = sheet_below tops i h k in let b = p.out k o in omega arith in
-      let x0 = value_kept f c 0 (slice_index (sheet_at tops i) 0) (z 0) _ refl in let x1 = value_kept f c 1 (slice_index (sheet_at tops i) 1) (z 1) _ refl in
-      let x2 = value_kept f c 2 (slice_index (sheet_at tops i) 2) (z 2) _ refl in let x3 = value_kept f c 3 (slice_index (sheet_at tops i) 3) (z 3) _ refl in
-      let y = fours (sheet_at tops i) (sheet_length tops i ∙ p.four) in cc
+  span_sheet i h = span_kept f c tops (sheet_at tops i) (sheet_length tops i ∙ p.four) p.out (sheet_below tops i h)
 
   module _ (ws : List ℕ) where
     -- the weight of the sheet at a place

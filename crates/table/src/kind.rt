@@ -1,17 +1,14 @@
 // A table as a belief.
 ghost use Rattle.std.specs.Prelude.{◌≡◌, nat_le};
-ghost use Rattle.table.specs.Tables.{good_total, meaning};
+ghost use Rattle.table.specs.Tables.{meaning};
 ghost use Rattle.table.specs.Soundness.{table_laws};
 
 use crate::held::{PLACES, Table};
-use crate::places::{fits_in, place_of, span_only};
+use crate::places::{fits_in, place_of};
 use crate::walks::greater;
-use belief::Belief;
+use belief::{Belief, good_total};
 use question::Question;
 use refusal::Refusal;
-
-// The most that the total of a sound belief may be.
-const MOST: u64 = 1 << 40;
 
 impl Belief for Table {
     const LETTER: u8 = b'T';
@@ -20,22 +17,22 @@ impl Belief for Table {
 
     ghost means = { meaning };
 
-    ghost laws = { λ b e. table_laws b.first b.count b.tops b.weights b.four e };
+    ghost laws = { λ b e. table_laws b.span.first b.span.count b.span.tops b.weights b.four e };
 
     fn sound(&self) -> bool {
         self.is_shaped() && good_total(self.sum())
     }
 
     fn first(&self) -> u8 {
-        self.first
+        self.span.first
     }
 
     fn count(&self) -> u8 {
-        self.count
+        self.span.count
     }
 
     fn tops(&self) -> [u8; 4] {
-        self.tops
+        self.span.tops
     }
 
     fn total(&self) -> u64 {
@@ -62,20 +59,20 @@ impl Belief for Table {
     }
 
     fn weight(&self, sheet: [u8; 4]) -> u64 {
-        let own = span_only(self.first, self.count, sheet);
-        if !fits_in(self.tops, own) {
+        let own = self.span.only(sheet);
+        if !fits_in(self.span.tops, own) {
             return 0;
         }
-        let at = place_of(self.tops, own);
+        let at = place_of(self.span.tops, own);
         if at >= PLACES {
             return 0;
         }
-        self.weights[at] as u64
+        u64::from(self.weights[at])
     }
 
     fn carries(&self, question: &[u8]) -> Result<bool, Refusal> {
         let question = Question::read(question)?;
-        Ok(question.reads_in(self.first, self.count))
+        Ok(question.reads_in(self.span.first, self.span.count))
     }
 
     fn mass(&self, question: &[u8], answer: u8) -> Result<u64, Refusal> {
@@ -96,13 +93,6 @@ impl Belief for Table {
         self.keep(&question, answer);
         Ok(())
     }
-}
-
-// Whether a total is that of a sound belief.
-fn good_total(total: u64) -> bool
-    ensures { result ≡ good_total total }
-{
-    (1 <= total) & (total <= MOST)
 }
 
 // Whether a sheet of this weight is possible.

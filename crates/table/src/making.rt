@@ -2,10 +2,11 @@
 ghost use Rattle.std.specs.Prelude.{◌≡◌, ◌≤◌, false, length, take, IfOk};
 ghost use Rattle.refusal.specs.Replies.{reply};
 ghost use Rattle.belief.specs.Calls.{seen};
-ghost use Rattle.table.specs.Tables.{good_span, good_weight, good_weights, good_list, table_made, meaning, Filled};
+ghost use Rattle.table.specs.Tables.{good_weight, good_weights, good_list, table_made, meaning, Filled};
 
 use crate::held::{PLACES, Table};
-use crate::places::{size_of, zero_outside};
+use crate::places::size_of;
+use belief::Span;
 use refusal::Refusal;
 
 impl Table {
@@ -14,19 +15,12 @@ impl Table {
         ensures makes { seen meaning (reply result) ≡ table_made first count tops weights.now }
         ensures filled { IfOk result (λ t. Filled weights.now (meaning t)) }
     {
-        if !good_span(first, count) {
-            return Err(Refusal::Span);
-        }
-        if !zero_outside(first, count, tops) {
-            return Err(Refusal::Value);
-        }
+        let span = Span::make(first, count, tops)?;
         if !good_list(tops, weights) {
             return Err(Refusal::Amount);
         }
         Ok(Table {
-            first,
-            count,
-            tops,
+            span,
             weights: copied(weights),
         })
     }
@@ -38,19 +32,14 @@ impl Default for Table {
 
     fn default() -> Table {
         Table {
-            first: 0,
-            count: 0,
-            tops: [0; 4],
+            span: Span {
+                first: 0,
+                count: 0,
+                tops: [0; 4],
+            },
             weights: [0; PLACES],
         }
     }
-}
-
-// Whether a span has a field and ends with the last field at most.
-pub fn good_span(first: u8, count: u8) -> bool
-    ensures { result ≡ good_span first count }
-{
-    (1 <= count) & (first as u16 + count as u16 <= 4)
 }
 
 // Whether the sheets are few enough, and the list has one starting weight for each.

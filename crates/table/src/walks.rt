@@ -10,30 +10,28 @@ ghost use Rattle.table.specs.Tables.{shaped, meaning};
 ghost use Rattle.table.specs.Walks.{Shaped, Kept};
 
 use crate::held::{PLACES, Table};
-use crate::making::good_span;
-use crate::places::{next, size_of, zero_outside};
+use crate::places::{next, size_of};
 use question::Question;
 use refusal::Refusal;
 
 impl Table {
     // Whether span and tops are those of a table.
     pub(crate) fn is_shaped(&self) -> bool
-        ensures { result ≡ shaped self.now.first self.now.count self.now.tops }
+        ensures { result ≡ shaped self.now.span.first self.now.span.count self.now.span.tops }
     {
-        good_span(self.first, self.count)
-            & (zero_outside(self.first, self.count, self.tops) & (size_of(self.tops) <= PLACES))
+        self.span.is_good() && size_of(self.span.tops) <= PLACES
     }
 
     // How many weights are looked at: one for each sheet, as far as there is room.
     fn places(&self) -> usize
-        ensures { result ≡ min (size_of self.now.tops) 1024 }
+        ensures { result ≡ min (size_of self.now.span.tops) 1024 }
     {
-        size_of(self.tops).min(PLACES)
+        size_of(self.span.tops).min(PLACES)
     }
 
     // The weights of the sheets.
     pub(crate) fn held(&self) -> &[u32]
-        ensures are { result.now ≡ take (min (size_of self.now.tops) 1024) self.now.weights }
+        ensures are { result.now ≡ take (min (size_of self.now.span.tops) 1024) self.now.weights }
         ensures few { length result.now ≤ 1024 }
     {
         &self.weights[0..self.places()]
@@ -56,7 +54,7 @@ impl Table {
         ensures { mapped text (reply result) ≡ replied (meaning self.now) question.now question.now }
     {
         let question = Question::read(question)?;
-        if !question.reads_in(self.first, self.count) {
+        if !question.reads_in(self.span.first, self.span.count) {
             return Err(Refusal::NotCarried);
         }
         Ok(question)
@@ -71,7 +69,7 @@ impl Table {
         let held = self.held();
         for w in held {
             sum += share(question, answer, sheet, *w) as u64;
-            let after = next(self.tops, sheet);
+            let after = next(self.span.tops, sheet);
             sheet = after;
         }
         sum
@@ -86,7 +84,7 @@ impl Table {
         let held = self.held();
         for w in held {
             most = greater(most, share(question, answer, sheet, *w));
-            let after = next(self.tops, sheet);
+            let after = next(self.span.tops, sheet);
             sheet = after;
         }
         most
@@ -100,7 +98,7 @@ impl Table {
         let places = self.places();
         for i in 0..places {
             self.weights[i] = share(question, answer, sheet, self.weights[i]);
-            let after = next(self.tops, sheet);
+            let after = next(self.span.tops, sheet);
             sheet = after;
         }
     }

@@ -4,4 +4,4 @@ use Rattle.table.proofs.Fours.{size_four}
 use Rattle.table.proofs.places.size_of.Goals as goal
 
 pub returns : goal.returns
-returns c = size_four c.args.tops (search rules)
+returns c = simp (c.from.ensures, c.from-2.ensures, c.from-3.ensures, c.from-4.ensures) (size_four c.args.tops (search rules))

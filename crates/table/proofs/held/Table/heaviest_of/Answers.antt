@@ -6,16 +6,16 @@ use Rattle.table.proofs.Loops.{share_is, held_few, heaviest_walked}
 use Rattle.table.proofs.held.Table.heaviest_of.Goals as goal
 
 pub loop-w-init : goal.loop-w-init
-loop-w-init c = (fold_none max 0 _, λ h. stands_first c.args.self.now.tops c.args.self.now.four)
+loop-w-init c = (fold_none max 0 _, λ h. stands_first c.args.self.now.span.tops c.args.self.now.four)
 
 pub loop-w-preserved : goal.loop-w-preserved
 loop-w-preserved c =
     let t = c.args.self.now in
     let us = c.held-held.result.now in
     let i = c.loop-w.w-index in
-    let few = held_few t.tops t.weights us c.held-held.ensures.are in
+    let few = held_few t.span.tops t.weights us c.held-held.ensures.are in
     let here = c.loop-w.invariant.1 (omega arith) in
-    (c.greater-most.ensures ∙ fold_more max 0 _ _ _ _ c.loop-w.invariant.0 (share_is _ t.tops us _ c.args.answer i _ t.four here c.share.ensures), λ h. c.next-after.ensures i here h)
+    (c.greater-most.ensures ∙ fold_more max 0 _ _ _ _ c.loop-w.invariant.0 (share_is _ t.span.tops us _ c.args.answer i _ t.four here c.share.ensures), λ h. c.next-after.ensures i here h)
 
 pub returns : goal.returns
 returns c = λ s.

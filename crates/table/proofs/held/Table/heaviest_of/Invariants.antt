@@ -9,5 +9,5 @@ use Rattle.table.proofs.held.Table.heaviest_of.Given as goal
 
 abbrev pub invariant-loop-w : goal.invariant-loop-w
 invariant-loop-w l =
-    (l.most ≡ fold_below max 0 l.w-index (share_at (text l.question) l.answer l.self.tops l.held))
-    × (l.w-index < size_of l.self.tops → Stands l.self.tops l.sheet l.w-index)
+    (l.most ≡ fold_below max 0 l.w-index (share_at (text l.question) l.answer l.self.span.tops l.held))
+    × (l.w-index < size_of l.self.span.tops → Stands l.self.span.tops l.sheet l.w-index)

@@ -8,9 +8,7 @@ use Rattle.table.proofs.held.Table.keep.Given as goal
 
 abbrev pub invariant-loop-i : goal.invariant-loop-i
 invariant-loop-i l =
-    (l.self.first ≡ l.initial.self.first)
-    × (l.self.count ≡ l.initial.self.count)
-    × (l.self.tops ≡ l.initial.self.tops)
-    × ((j : ℕ) → j < l.i → get_or l.self.weights j 0 ≡ share_at (text l.question) l.answer l.initial.self.tops l.initial.self.weights j)
+    (l.self.span ≡ l.initial.self.span)
+    × ((j : ℕ) → j < l.i → get_or l.self.weights j 0 ≡ share_at (text l.question) l.answer l.initial.self.span.tops l.initial.self.weights j)
     × ((j : ℕ) → l.i ≤ j → get_or l.self.weights j 0 ≡ get_or l.initial.self.weights j 0)
-    × (l.i < size_of l.initial.self.tops → Stands l.initial.self.tops l.sheet l.i)
+    × (l.i < size_of l.initial.self.span.tops → Stands l.initial.self.span.tops l.sheet l.i)

@@ -10,6 +10,6 @@ use Rattle.table.proofs.held.Table.mass_of.Given as goal
 
 abbrev pub invariant-loop-w : goal.invariant-loop-w
 invariant-loop-w l =
-    (l.sum ≡ fold_below plus 0 l.w-index (share_at (text l.question) l.answer l.self.tops l.held))
+    (l.sum ≡ fold_below plus 0 l.w-index (share_at (text l.question) l.answer l.self.span.tops l.held))
     × (l.sum ≤ l.w-index * 2 ^ 32)
-    × (l.w-index < size_of l.self.tops → Stands l.self.tops l.sheet l.w-index)
+    × (l.w-index < size_of l.self.span.tops → Stands l.self.span.tops l.sheet l.w-index)

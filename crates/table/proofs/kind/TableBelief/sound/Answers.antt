@@ -1,7 +1,8 @@
 -- The shape and the total are tested.
 use Rattle.std.proofs.Common.{◌&&◌, sym, ap, ◌∙◌}
 use Rattle.belief.specs.Meaning.{total_of}
-use Rattle.table.specs.Tables.{good_total, meaning}
+use Rattle.belief.specs.Spans.{good_total}
+use Rattle.table.specs.Tables.{meaning}
 use Rattle.table.proofs.kind.TableBelief.sound.Goals as goal
 
 pub returns-then-is_shaped : goal.returns-then-is_shaped

@@ -1,8 +1,0 @@
--- The test is the definition.
-use Rattle.std.proofs.Common.{refl}
-use Rattle.question.specs.Questions.{in_span}
-use Rattle.table.proofs.places.in_span.Goals as goal
-
-pub returns : goal.returns
-unfolding in_span
-returns c = refl
