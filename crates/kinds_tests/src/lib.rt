@@ -57,12 +57,9 @@ mod tests {
         Pair::make(left, right)
     }
 
-    // The number of the refusal, or 0.
-    fn refused(reply: Result<u64, Refusal>) -> u8 {
-        match reply {
-            Ok(_) => 0,
-            Err(why) => why.number(),
-        }
+    // The number of the refusal, if it is one.
+    fn refused(reply: Result<u64, Refusal>) -> Option<u8> {
+        reply.err().map(|why| why.number())
     }
 
     #[test]
@@ -89,7 +86,7 @@ mod tests {
         let Ok(pair) = sample() else {
             return Err(Fail::new("the pair is refused"));
         };
-        assert_eq!(rt; refused(pair.mass(b"<f\x00f\x01", 1)), 12);
+        assert_eq!(rt; refused(pair.mass(b"<f\x00f\x01", 1)), Some(12));
         let Ok(table) = Table::make(0, 2, [1, 2, 0, 0], &[1, 1, 2, 2, 2, 4]) else {
             return Err(Fail::new("the table is refused"));
         };

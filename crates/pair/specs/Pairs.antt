@@ -1,13 +1,20 @@
 -- What a pair of beliefs means, and when one is made. Assumes nothing.
-use Rattle.std.specs.Prelude.{ℕ, ◌+◌, ◌*◌, ◌^◌, Bool, false, cond, not, ◌&&◌, List, [], ◌∷◌, ◌==◌, nat_le}
+use Rattle.std.specs.Prelude.{ℕ, ◌+◌, ◌*◌, Bool, false, cond, not, ◌&&◌, Some, None, Option, List, [], ◌∷◌, ◌==◌, nat_le}
 use Rattle.refusal.specs.Replies.{Reply, given, refuse_if}
 use Rattle.question.specs.Questions.{reads_in}
 use Rattle.belief.specs.Joined.{joined}
 use Rattle.belief.specs.Meaning.{Meaning, Asked, total_of}
+use Rattle.belief.specs.Spans.{most_total}
+use Rattle.pair.specs.declared.joint.Side.{Side}
+use Rattle.pair.specs.declared.joint.Side.TheVariants.{Left, Right}
 
 -- whether all fields that a question reads are a side's
 abbrev pub within : Meaning → List ℕ → Bool
 within m q = reads_in m.first m.count q
+
+-- the side that a question is asked of: the left if all fields that it reads are the left's, else the right if they are the right's
+abbrev pub side_of : Meaning → Meaning → List ℕ → Option Side
+side_of l r q = cond (within l q) (Some Left) (cond (within r q) (Some Right) None)
 
 -- the revisings that went to the left side
 abbrev pub left_ones : Meaning → List Asked → List Asked
@@ -29,7 +36,7 @@ sides l r = l.sound && r.sound && r.first == l.first + l.count
 
 -- whether the total stays within its limit
 abbrev pub light : Meaning → Meaning → Bool
-light l r = nat_le (total_of l * total_of r) (2 ^ 40)
+light l r = nat_le (total_of l * total_of r) most_total
 
 -- two beliefs side by side: a sheet weighs its left weight times its right weight
 abbrev pub paired : Meaning → Meaning → Meaning

@@ -4,3 +4,10 @@ pub struct Pair<L, R> {
     pub(crate) left: L,
     pub(crate) right: R,
 }
+
+// The side that a question is asked of.
+#[derive(Clone, Copy)]
+pub(crate) enum Side {
+    Left,
+    Right,
+}

@@ -1,11 +1,13 @@
 // A pair as a belief.
 ghost use Rattle.std.specs.Prelude.{◌≡◌, ◌*◌, min, true};
+ghost use Rattle.refusal.specs.Replies.{reply, mapped};
+ghost use Rattle.question.specs.Reading.{reading};
 ghost use Rattle.question.specs.Texts.{text};
-ghost use Rattle.pair.specs.Pairs.{paired, within};
+ghost use Rattle.pair.specs.Pairs.{paired, within, side_of};
 ghost use Rattle.pair.specs.Folds.{parts};
 ghost use Rattle.pair.specs.Soundness.{pair_laws};
 
-use crate::joint::Pair;
+use crate::joint::{Pair, Side};
 use crate::making::{good_sides, is_light};
 use belief::Belief;
 use question::Question;
@@ -60,51 +62,65 @@ impl<L: Belief, R: Belief> Belief for Pair<L, R> {
     }
 
     fn carries(&self, question: &[u8]) -> Result<bool, Refusal> {
-        let asked = Question::read(question)?;
-        if reads_only(&self.left, &asked) {
-            return self.left.carries(question);
+        match self.side_of(question)? {
+            Some(Side::Left) => self.left.carries(question),
+            Some(Side::Right) => self.right.carries(question),
+            None => Ok(false),
         }
-        if reads_only(&self.right, &asked) {
-            return self.right.carries(question);
-        }
-        Ok(false)
     }
 
     fn mass(&self, question: &[u8], answer: u8) -> Result<u64, Refusal> {
-        let asked = Question::read(question)?;
-        if reads_only(&self.left, &asked) {
-            let share = self.left.mass(question, answer)?;
-            return Ok(product(share, self.right.total()));
+        match self.side_of(question)? {
+            Some(Side::Left) => {
+                let share = self.left.mass(question, answer)?;
+                Ok(product(share, self.right.total()))
+            }
+            Some(Side::Right) => {
+                let part = self.right.mass(question, answer)?;
+                Ok(product(self.left.total(), part))
+            }
+            None => Err(Refusal::NotCarried),
         }
-        if reads_only(&self.right, &asked) {
-            let part = self.right.mass(question, answer)?;
-            return Ok(product(self.left.total(), part));
-        }
-        Err(Refusal::NotCarried)
     }
 
+    // Beside mass it differs in four calls: one function for both would take four closures.
     fn heaviest(&self, question: &[u8], answer: u8) -> Result<u64, Refusal> {
-        let asked = Question::read(question)?;
-        if reads_only(&self.left, &asked) {
-            let share = self.left.heaviest(question, answer)?;
-            return Ok(product(share, self.right.peak()));
+        match self.side_of(question)? {
+            Some(Side::Left) => {
+                let share = self.left.heaviest(question, answer)?;
+                Ok(product(share, self.right.peak()))
+            }
+            Some(Side::Right) => {
+                let part = self.right.heaviest(question, answer)?;
+                Ok(product(self.left.peak(), part))
+            }
+            None => Err(Refusal::NotCarried),
         }
-        if reads_only(&self.right, &asked) {
-            let part = self.right.heaviest(question, answer)?;
-            return Ok(product(self.left.peak(), part));
-        }
-        Err(Refusal::NotCarried)
     }
 
     fn revise(&mut self, question: &[u8], answer: u8) -> Result<(), Refusal> {
-        let asked = Question::read(question)?;
-        if reads_only(&self.left, &asked) {
-            return self.left.revise(question, answer);
+        match self.side_of(question)? {
+            Some(Side::Left) => self.left.revise(question, answer),
+            Some(Side::Right) => self.right.revise(question, answer),
+            None => Err(Refusal::NotCarried),
         }
-        if reads_only(&self.right, &asked) {
-            return self.right.revise(question, answer);
+    }
+}
+
+impl<L: Belief, R: Belief> Pair<L, R> {
+    // The side whose fields are all that a question reads, the left one first; 9 or 10.
+    fn side_of(&self, question: &[u8]) -> Result<Option<Side>, Refusal>
+        ensures { (paired (L.Belief.means self.now.left) (R.Belief.means self.now.right)).sound ≡ true →
+            reply result ≡ mapped (λ e. side_of (L.Belief.means self.now.left) (R.Belief.means self.now.right) question.now) (reading question.now) }
+    {
+        let question = Question::read(question)?;
+        if reads_only(&self.left, &question) {
+            return Ok(Some(Side::Left));
         }
-        Err(Refusal::NotCarried)
+        if reads_only(&self.right, &question) {
+            return Ok(Some(Side::Right));
+        }
+        Ok(None)
     }
 }
 

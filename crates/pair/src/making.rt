@@ -5,11 +5,8 @@ ghost use Rattle.belief.specs.Calls.{seen};
 ghost use Rattle.pair.specs.Pairs.{paired, sides, light, pair_made};
 
 use crate::joint::Pair;
-use belief::Belief;
+use belief::{Belief, MOST_TOTAL};
 use refusal::Refusal;
-
-// The most that the total of a sound belief may be.
-const MOST: u128 = 1 << 40;
 
 impl<L: Belief, R: Belief> Pair<L, R> {
     // A pair of two beliefs, pairs too.
@@ -46,7 +43,7 @@ pub fn good_sides<L: Belief, R: Belief>(left: &L, right: &R) -> bool
 {
     left.sound()
         && right.sound()
-        && right.first() as u16 == left.first() as u16 + left.count() as u16
+        && u16::from(right.first()) == u16::from(left.first()) + u16::from(left.count())
 }
 
 // Whether the total of good sides stays within its limit.
@@ -54,5 +51,5 @@ pub fn is_light<L: Belief, R: Belief>(left: &L, right: &R) -> bool
     ensures { sides (L.Belief.means left.now) (R.Belief.means right.now) ≡ true →
         result ≡ light (L.Belief.means left.now) (R.Belief.means right.now) }
 {
-    left.total() as u128 * right.total() as u128 <= MOST
+    u128::from(left.total()) * u128::from(right.total()) <= u128::from(MOST_TOTAL)
 }
