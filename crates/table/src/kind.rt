@@ -40,22 +40,12 @@ impl Belief for Table {
     }
 
     fn peak(&self) -> u64 {
-        let mut most = 0;
         let held = self.held();
-        for w in held {
-            most = greater(most, *w);
-        }
-        most
+        held.iter().map(|w| u64::from(*w)).max().unwrap_or(0)
     }
 
     fn whole(&self) -> bool {
-        let held = self.held();
-        for w in held {
-            if !is_possible(*w) {
-                return false;
-            }
-        }
-        true
+        self.held().iter().all(|w| 1 <= *w)
     }
 
     fn weight(&self, sheet: [u8; 4]) -> u64 {
@@ -93,11 +83,4 @@ impl Belief for Table {
         self.keep(&question, answer);
         Ok(())
     }
-}
-
-// Whether a sheet of this weight is possible.
-fn is_possible(weight: u32) -> bool
-    ensures { result ≡ nat_le 1 weight }
-{
-    1 <= weight
 }

@@ -50,23 +50,11 @@ fn good_list(tops: [u8; 4], list: &[u32]) -> bool
     (size <= PLACES) & ((list.len() == size) & good_weights(list))
 }
 
-// Whether each weight is a starting weight.
+// Whether each weight is a starting weight, 1 to 65,535.
 fn good_weights(list: &[u32]) -> bool
     ensures { result ≡ good_weights list.now }
 {
-    for w in list {
-        if !good_weight(*w) {
-            return false;
-        }
-    }
-    true
-}
-
-// Whether a starting weight is 1 to 65,535.
-fn good_weight(w: u32) -> bool
-    ensures { result ≡ good_weight w }
-{
-    (1 <= w) & (w <= 65_535)
+    list.iter().all(|w| (1..=65_535).contains(w))
 }
 
 // The weights, and 0 after them.

@@ -41,12 +41,7 @@ impl Table {
     pub(crate) fn sum(&self) -> u64
         ensures { Shaped self.now → result ≡ total_of (meaning self.now) }
     {
-        let mut sum = 0;
-        let held = self.held();
-        for w in held {
-            sum += *w as u64;
-        }
-        sum
+        self.held().iter().map(|w| u64::from(*w)).sum()
     }
 
     // The question that the bytes are, if it is carried.

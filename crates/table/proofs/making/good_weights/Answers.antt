@@ -1,21 +1,15 @@
--- One weight more, the first that fails, and all.
-use Rattle.std.proofs.Common.{get_or, sym, refl, ap, ◌∙◌, arith}
-use Rattle.question.specs.Questions.{all_below}
-use Rattle.question.proofs.Questions.{all_more, all_fails}
-use Rattle.table.specs.Tables.{good_weights, good_weight}
+-- Each weight is tested.
+use Rattle.std.proofs.Common.{◌≡◌, ◌∙◌, rules}
+use borrow.Author.Tests.{tests}
+use Rattle.std.specs.List.{list_all}
+use Rattle.std.proofs.lemmas.Iterator.{YieldsList-from_slice}
+use Rattle.std.proofs.lemmas.Iterator.Search.{all_from_yields_List}
+use Rattle.table.specs.Tables.{good_weight, good_weights}
+use Rattle.table.proofs.Loops.{all_items}
 use Rattle.table.proofs.making.good_weights.Goals as goal
-
-pub loop-w-init : goal.loop-w-init
-unfolding all_below
-loop-w-init c = refl
-
-pub loop-w-preserved : goal.loop-w-preserved
-loop-w-preserved c = all_more _ _ c.loop-w.invariant (sym c.good_weight.ensures ∙ c.if-not-good_weight.false)
-
-pub returns-then-not-good_weight : goal.returns-then-not-good_weight
-unfolding good_weights
-returns-then-not-good_weight c = sym (all_fails _ _ c.loop-w.w-index c.loop-w-test.true (sym c.good_weight.ensures ∙ c.if-not-good_weight.true))
 
 pub returns : goal.returns
 unfolding good_weights
-returns c = sym (ap (λ n. all_below n (λ i. good_weight (get_or c.args.list.now i 0))) (omega arith) ∙ c.loop-w.invariant)
+returns c =
+    let e : c.all.result ≡ list_all good_weight c.args.list.now = all_from_yields_List good_weight _ _ _ c.all.ensures.ran (YieldsList-from_slice c.args.list.now cc) (λ x b q k. search (rules, tests)) in
+    e ∙ all_items good_weight c.args.list.now

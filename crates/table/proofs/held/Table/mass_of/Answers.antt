@@ -21,4 +21,4 @@ loop-w-preserved c =
 pub returns : goal.returns
 returns c = λ s.
     mass_walked c.args.self.now s c.held-held.result.now c.loop-w.w-index
-    (record { held = c.held-held.ensures.are; done = c.loop-w-test.false; most = c.loop-w.auto.w-index-end }) _ c.args.answer _ c.loop-w.invariant.0
+    (record { held = c.held-held.ensures.are; all = omega (arith, c.loop-w-test.false, c.loop-w.auto.w-index-end) }) _ c.args.answer _ c.loop-w.invariant.0

@@ -1,17 +1,11 @@
--- One weight more, and all that are held.
-use Rattle.std.proofs.Common.{refl, arith}
-use Rattle.belief.specs.Sheets.{plus}
-use Rattle.table.specs.Folds.{fold_none, fold_more}
+-- The sum of the weights that are held.
+use Rattle.std.proofs.Common.{◌≡◌, length, refl, rules}
+use Rattle.std.specs.List.{sum}
 use Rattle.table.proofs.Loops.{total_walked}
 use Rattle.table.proofs.held.Table.sum.Goals as goal
 
-pub loop-w-init : goal.loop-w-init
-loop-w-init c = (fold_none plus 0 _, omega arith)
-
-pub loop-w-preserved : goal.loop-w-preserved
-loop-w-preserved c = (fold_more plus 0 _ _ _ _ c.loop-w.invariant.0 refl, omega arith)
-
 pub returns : goal.returns
 returns c = λ s.
-    total_walked c.args.self.now s c.held-held.result.now c.loop-w.w-index
-    (record { held = c.held-held.ensures.are; done = c.loop-w-test.false; most = c.loop-w.auto.w-index-end }) _ c.loop-w.invariant.0
+    let us = c.held.result.now in
+    let e : c.sum.result ≡ sum us = search rules in
+    total_walked c.args.self.now s us (length us) (record { held = c.held.ensures.are; all = refl }) _ e
