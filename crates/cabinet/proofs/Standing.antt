@@ -22,15 +22,19 @@ use Rattle.history.proofs.Entries.{written_none, written_one, audit_one, audit_l
 use Rattle.history.proofs.Main.{lawful}
 use Rattle.cabinet.specs.declared.cabinets.Cabinet.{Cabinet}
 use Rattle.cabinet.specs.declared.folders.Folder.{Folder}
+use Rattle.cabinet.specs.declared.thresholds.Threshold.{Threshold}
 use Rattle.cabinet.specs.declared.views.View.{View as Shown}
 use Rattle.cabinet.specs.Memory.{State, filed, meant, understood, coded, changed, short, logged}
 use Rattle.cabinet.specs.Calls.{some_or, misfit, making, enrolling, after_enrolling, known as folder-of, judging, answering, asking, hearing, after_asking, looking}
 use Rattle.cabinet.specs.Standing.{filing, offering, viewed, Stands, GoesOn, Begins}
 use Rattle.cabinet.proofs.Filing.{code, changed_codes, coded_changed, vacant_is, free_coded, put_codes, coded_put, meant_put}
 
+abbrev threshold-of : ℕ → ℕ → Threshold
+threshold-of n d = record { n = n; d = d }
+
 -- the folder of an offer
 abbrev offered : Offer → Folder Meaning
-offered o = filed o.code o.n o.d o.start
+offered o = filed o.code (threshold-of o.n o.d) o.start
 
 through_then : {A B C : Type 0} (g : B → C) (r : Reply A) (next : A → Reply B) → through g (and_then r next) ≡ and_then r (λ x. through g (next x))
 through_then g (given x) next = refl
@@ -134,7 +138,7 @@ module _ (w : Setting) (x before : List ℕ) (past : Past) (s : State Meaning) (
 
   new_folder : (o : Offer) (c : ℕ) (t : Bool) → eqb o.code c ≡ t → cond t (Some (offered o)) (option_map (filing c) (known past c)) ≡ option_map (filing c) (cond t (Some (fresh o)) (known past c))
   new_folder o c true e =
-      ap (λ b. Some (filed b o.n o.d o.start)) (eqb-true o.code c e) ∙ ap (λ m. Some (filed c o.n o.d m)) (sym (conditioned_none o.start))
+      ap (λ b. Some (filed b (threshold-of o.n o.d) o.start)) (eqb-true o.code c e) ∙ ap (λ m. Some (filed c (threshold-of o.n o.d) m)) (sym (conditioned_none o.start))
   new_folder o c false e = refl
 
   entered : (o : Offer) (i k : ℕ) → given i ≡ enrol_reply w past o → w.places - enrolments past ≡ suc k → coded o.code s.folders ≡ None →
@@ -203,7 +207,7 @@ module _ (w : Setting) (x before : List ℕ) (past : Past) (s : State Meaning) (
   heard_folder : (c b : ℕ) (q : List ℕ) (a : ℕ) (t : Bool) (o : Option Restorer) →
       cond t (option_map (hearing q a) (option_map (filing b) o)) (option_map (filing b) o) ≡ option_map (filing b) (cond t (option_map (hears q a) o) o)
   heard_folder c b q a true None = refl
-  heard_folder c b q a true (Some r) = ap (λ m. Some (filed b r.n r.d m)) (sym (held_hears r q a))
+  heard_folder c b q a true (Some r) = ap (λ m. Some (filed b (threshold-of r.n r.d) m)) (sym (held_hears r q a))
   heard_folder c b q a false o = refl
 
   ask_memory : (c : ℕ) (q : List ℕ) (r : Reply ℕ) → r ≡ ask_reply w x past c q → Stands w x before (asks c q r ∷ past) (after_asking s c q r)
@@ -224,8 +228,8 @@ module _ (w : Setting) (x before : List ℕ) (past : Past) (s : State Meaning) (
   look_same : (c : ℕ) → through viewed (looking s.cabinet s.folders c) ≡ look_reply past c
   unfolding look_reply
   look_same c =
-      through_then viewed (folder-of s.cabinet s.folders c) (λ f. given (record { total = total_of f.belief; peak = peak_of f.belief; n = f.n; d = f.d }))
-      ∙ by_code c (λ f. given (record { total = total_of f.belief; peak = peak_of f.belief; n = f.n; d = f.d })) looked refl (λ r e. refl)
+      through_then viewed (folder-of s.cabinet s.folders c) (λ f. given (record { total = total_of f.belief; peak = peak_of f.belief; threshold = f.threshold }))
+      ∙ by_code c (λ f. given (record { total = total_of f.belief; peak = peak_of f.belief; n = f.threshold.n; d = f.threshold.d })) looked refl (λ r e. refl)
 
 -- ---- what the calls promise
 
@@ -235,7 +239,7 @@ goes_on s t e h = record { stands = h; lawful = λ w x before past st. let n = h
 module _ {X : Type 0} (means : X → Meaning) (s : State X) where
   pub understood_enrolling : (kind : ℕ) (f : Folder X) (r : Reply ℕ) → understood means (after_enrolling s kind f r) ≡ after_enrolling (understood means s) kind (meant means f) r
   understood_enrolling kind f (given i) =
-      ap (λ fs. logged (understood means s) fs (enrolled f.code f.n f.d kind)) (meant_put means 0 f s.folders)
+      ap (λ fs. logged (understood means s) fs (enrolled f.code f.threshold.n f.threshold.d kind)) (meant_put means 0 f s.folders)
   understood_enrolling kind f (declined n p) = refl
 
   pub enrols_on : (kind : ℕ) (f : Folder X) (r : Reply ℕ) (t : State X) → r ≡ enrolling (understood means s) kind (meant means f) → t ≡ after_enrolling s kind f r →
@@ -307,6 +311,6 @@ begins count tops sheet c i j e =
 
 -- folders whose codes were set to 0 are free
 pub freed : {X : Type 0} (means : X → Meaning) (fs : List (Folder X)) →
-    map code (map (meant means) (map (λ f. filed 0 f.n f.d f.belief) fs)) ≡ replicate (length (map (meant means) (map (λ f. filed 0 f.n f.d f.belief) fs))) 0
+    map code (map (meant means) (map (λ f. filed 0 f.threshold f.belief) fs)) ≡ replicate (length (map (meant means) (map (λ f. filed 0 f.threshold f.belief) fs))) 0
 freed means [] = refl
 freed means (f ∷ fs) = ap (λ ns. 0 ∷ ns) (freed means fs)

@@ -47,7 +47,7 @@ module _ (s : State Meaning) (q : List ℕ) (f : Folder Meaning) where
   pub ready : (a : ℕ) (r : Reply ℕ) → r ≡ and_then (reading q) (λ e. judging f q a) → a ≤ greatest → Room s.cabinet s.audit q → Ready s.cabinet s.audit q f r
   ready a (declined n p) e l room = λ h. room
   ready a (given b) e l room =
-      let k = revises (reading q) (f.belief.carries [] q) (eqb (mass_of f.belief q a) 0) (telling f.belief q f.n f.d) a b e in
+      let k = revises (reading q) (f.belief.carries [] q) (eqb (mass_of f.belief q a) 0) (telling f.belief q f.threshold.n f.threshold.d) a b e in
       rw k.0 (room, k.1, l)
 
   -- the folder was known

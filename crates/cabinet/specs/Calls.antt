@@ -34,18 +34,18 @@ making count tops sheet =
 
 abbrev pub enrolling : State Meaning → ℕ → Folder Meaning → Reply ℕ
 enrolling s kind f =
-    refuse_if (not (threshold f.n f.d)) 3 (
+    refuse_if (not (threshold f.threshold.n f.threshold.d)) 3 (
     refuse_if (f.code == 0 || is_some (coded f.code s.folders)) 6 (
     some_or 7 (vacant (λ g. g.code) s.folders) (λ i.
     refuse_if (not (fitting s.cabinet.count s.cabinet.tops f.belief)) 8 (
-    refuse_if (short s (enrolled f.code f.n f.d kind)) 11 (
+    refuse_if (short s (enrolled f.code f.threshold.n f.threshold.d kind)) 11 (
     refuse_if (not (whole_of f.belief)) 13 (
-    refuse_if (exceeds f.n f.d (peak_of f.belief) (total_of f.belief)) 14 (
+    refuse_if (exceeds f.threshold.n f.threshold.d (peak_of f.belief) (total_of f.belief)) 14 (
     given i)))))))
 
 -- the first free folder is now f, and a line is written; a refusal leaves all as it was
 abbrev pub after_enrolling : {X : Type 0} → State X → ℕ → Folder X → Reply ℕ → State X
-after_enrolling s kind f (given i) = logged s (changed 0 (λ g. f) s.folders) (enrolled f.code f.n f.d kind)
+after_enrolling s kind f (given i) = logged s (changed 0 (λ g. f) s.folders) (enrolled f.code f.threshold.n f.threshold.d kind)
 after_enrolling s kind f (declined n p) = s
 
 -- ---- asking: 6, 8, 9, 10, 11, 12, 13, 14
@@ -59,7 +59,7 @@ abbrev pub judging : Folder Meaning → List ℕ → ℕ → Reply ℕ
 judging f q a =
     refuse_if (not (f.belief.carries [] q)) 12 (
     refuse_if (mass_of f.belief q a == 0) 13 (
-    refuse_if (telling f.belief q f.n f.d) 14 (
+    refuse_if (telling f.belief q f.threshold.n f.threshold.d) 14 (
     given a)))
 
 -- a question of a known folder: 9, 10, 11, then as it is judged
@@ -74,7 +74,7 @@ asking s code q = and_then (known s.cabinet s.folders code) (answering s code q)
 
 -- the folder after an answer was heard
 abbrev pub hearing : List ℕ → ℕ → Folder Meaning → Folder Meaning
-hearing q a f = record { code = f.code; n = f.n; d = f.d; belief = revised f.belief q a }
+hearing q a f = record { code = f.code; threshold = f.threshold; belief = revised f.belief q a }
 
 -- an answer revises the belief and is written; so is a refusal with 12 or 14; any other refusal leaves all as it was
 abbrev pub after_asking : State Meaning → ℕ → List ℕ → Reply ℕ → State Meaning
@@ -89,4 +89,4 @@ Others code (declined n p) old new = new ≡ old
 -- ---- looking: 6, 8
 
 abbrev pub looking : Cabinet → List (Folder Meaning) → ℕ → Reply View
-looking c fs code = and_then (known c fs code) (λ f. given (record { total = total_of f.belief; peak = peak_of f.belief; n = f.n; d = f.d }))
+looking c fs code = and_then (known c fs code) (λ f. given (record { total = total_of f.belief; peak = peak_of f.belief; threshold = f.threshold }))

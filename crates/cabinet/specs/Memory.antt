@@ -5,6 +5,7 @@ use Rattle.audit.specs.Format.{Line, encode}
 use Rattle.audit.specs.Writing.{written}
 use Rattle.cabinet.specs.declared.cabinets.Cabinet.{Cabinet}
 use Rattle.cabinet.specs.declared.folders.Folder.{Folder}
+use Rattle.cabinet.specs.declared.thresholds.Threshold.{Threshold}
 
 -- X is a kind of belief, or Meaning for folders that hold what their beliefs mean
 pub record State (X : Type 0) : Type 0 where
@@ -17,11 +18,11 @@ state c fs bytes = record { cabinet = c; folders = fs; audit = bytes }
 
 -- ---- beliefs by what they mean
 
-abbrev pub filed : {X : Type 0} → ℕ → ℕ → ℕ → X → Folder X
-filed code n d belief = record { code = code; n = n; d = d; belief = belief }
+abbrev pub filed : {X : Type 0} → ℕ → Threshold → X → Folder X
+filed code threshold belief = record { code = code; threshold = threshold; belief = belief }
 
 abbrev pub meant : {X : Type 0} → (X → Meaning) → Folder X → Folder Meaning
-meant means f = filed f.code f.n f.d (means f.belief)
+meant means f = filed f.code f.threshold (means f.belief)
 
 abbrev pub understood : {X : Type 0} → (X → Meaning) → State X → State Meaning
 understood means s = record { cabinet = s.cabinet; folders = map (meant means) s.folders; audit = s.audit }

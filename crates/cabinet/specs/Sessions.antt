@@ -9,7 +9,7 @@ use Rattle.cabinet.specs.declared.requests.Call.{Call}
 use Rattle.cabinet.specs.declared.requests.Call.TheVariants.{Enrol, Ask, Look}
 use Rattle.cabinet.specs.declared.requests.Return.{Return}
 use Rattle.cabinet.specs.declared.requests.Return.TheVariants.{Enrolled, Asked, Looked}
-use Rattle.cabinet.specs.Memory.{State, filed}
+use Rattle.cabinet.specs.Memory.{State, filed, meant}
 use Rattle.cabinet.specs.Calls.{after_enrolling, after_asking}
 use Rattle.cabinet.specs.Standing.{offering, viewed, Stands, GoesOn}
 
@@ -38,7 +38,7 @@ looked_as (Looked r) = mapped viewed (reply r)
 
 module _ {X : Type 0} (means : X → Meaning) (letter : ℕ) where
   abbrev pub event : Call X → Return → Event
-  event (Enrol code n d belief) r = enrols (offering letter (filed code n d (means belief))) (enrolled_as r)
+  event (Enrol f) r = enrols (offering letter (meant means f)) (enrolled_as r)
   event (Ask code q) r = asks code q.now (asked_as r)
   event (Look code) r = looks code (looked_as r)
 
@@ -51,7 +51,7 @@ module _ {X : Type 0} (means : X → Meaning) (letter : ℕ) where
 -- ---- the memory that a history leaves
 
 abbrev pub after_event : State Meaning → Event → State Meaning
-after_event s (enrols o r) = after_enrolling s o.letter (filed o.code o.n o.d o.start) r
+after_event s (enrols o r) = after_enrolling s o.letter (filed o.code (record { n = o.n; d = o.d }) o.start) r
 after_event s (asks c q r) = after_asking s c q r
 after_event s (looks c r) = s
 
@@ -68,7 +68,7 @@ pub record Turns (s : State Meaning) (e : Event) (t : State Meaning) : Type 0 wh
 
 -- the folders with every code set to 0
 abbrev pub freed : {X : Type 0} → List (Folder X) → List (Folder X)
-freed fs = map (λ f. filed 0 f.n f.d f.belief) fs
+freed fs = map (λ f. filed 0 f.threshold f.belief) fs
 
 pub record Served (w : Setting) (x before : List ℕ) (h : Past) (s t : State Meaning) : Type 0 where
   -- what is promised of every list of calls

@@ -13,15 +13,15 @@ use Rattle.cabinet.specs.Memory.{State, filed, coded, state}
 
 -- the folder of a restorer: his code, his threshold, and what he holds
 abbrev pub filing : ℕ → Restorer → Folder Meaning
-filing code r = filed code r.n r.d (held r)
+filing code r = filed code (record { n = r.n; d = r.d }) (held r)
 
 -- what the folder of an enrolment offers, in a cabinet whose beliefs are of a kind
 abbrev pub offering : ℕ → Folder Meaning → Offer
-offering kind f = record { code = f.code; n = f.n; d = f.d; start = f.belief; letter = kind }
+offering kind f = record { code = f.code; n = f.threshold.n; d = f.threshold.d; start = f.belief; letter = kind }
 
 -- what a look showed
 abbrev pub viewed : Shown → View
-viewed v = record { total = v.total; peak = v.peak; n = v.n; d = v.d }
+viewed v = record { total = v.total; peak = v.peak; n = v.threshold.n; d = v.threshold.d }
 
 -- x is the sealed sheet, w what stays the same, before what the audit's bytes were before the first call
 pub record Stands (w : Setting) (x before : List ℕ) (past : Past) (s : State Meaning) : Type 0 where

@@ -2,14 +2,12 @@ ghost use Rattle.std.specs.Prelude.{◌≡◌, ◌||◌, map, is_some, Some, ◌
 ghost use Rattle.refusal.specs.Replies.{reply};
 ghost use Rattle.register.specs.Places.{vacant};
 ghost use Rattle.history.specs.Events.{enrols};
-ghost use Rattle.history.specs.Judging.{threshold};
-ghost use Rattle.cabinet.specs.Memory.{filed, meant, understood, state, coded, changed};
+ghost use Rattle.cabinet.specs.Memory.{meant, understood, state, coded, changed};
 ghost use Rattle.cabinet.specs.Calls.{enrolling, after_enrolling};
 ghost use Rattle.cabinet.specs.Standing.{GoesOn, offering};
 
 use crate::cabinets::Cabinet;
 use crate::folders::Folder;
-use crate::judging::above;
 use audit::Entry;
 use belief::Belief;
 use refusal::Refusal;
@@ -24,20 +22,17 @@ impl Cabinet {
         &mut self,
         register: &mut Register<'_, Folder<B>>,
         audit: &mut [u8],
-        code: u16,
-        n: u16,
-        d: u16,
-        belief: B,
+        folder: Folder<B>,
     ) -> Result<usize, Refusal>
-        ensures result { reply result ≡ enrolling (understood B.means (state self.old register.old.entries.now audit.old)) B.LETTER (filed code n d (B.means belief)) }
+        ensures result { reply result ≡ enrolling (understood B.means (state self.old register.old.entries.now audit.old)) B.LETTER (meant B.means folder) }
         ensures memory { state self.new register.new.entries.now audit.new
-            ≡ after_enrolling (state self.old register.old.entries.now audit.old) B.LETTER (filed code n d belief) (reply result) }
+            ≡ after_enrolling (state self.old register.old.entries.now audit.old) B.LETTER folder (reply result) }
         ensures lent { register.new.entries.ghost_name ≡ register.old.entries.ghost_name }
         ensures runs { GoesOn (understood B.means (state self.old register.old.entries.now audit.old))
-            (enrols (offering B.LETTER (filed code n d (B.means belief))) (reply result))
+            (enrols (offering B.LETTER (meant B.means folder)) (reply result))
             (understood B.means (state self.new register.new.entries.now audit.new)) }
     {
-        self.admit(register, audit, code, n, d, belief)
+        self.admit(register, audit, folder)
     }
 
     // The same, by its reply and what it leaves.
@@ -45,48 +40,41 @@ impl Cabinet {
         &mut self,
         register: &mut Register<'_, Folder<B>>,
         audit: &mut [u8],
-        code: u16,
-        n: u16,
-        d: u16,
-        belief: B,
+        folder: Folder<B>,
     ) -> Result<usize, Refusal>
-        ensures result { reply result ≡ enrolling (understood B.means (state self.old register.old.entries.now audit.old)) B.LETTER (filed code n d (B.means belief)) }
+        ensures result { reply result ≡ enrolling (understood B.means (state self.old register.old.entries.now audit.old)) B.LETTER (meant B.means folder) }
         ensures memory { state self.new register.new.entries.now audit.new
-            ≡ after_enrolling (state self.old register.old.entries.now audit.old) B.LETTER (filed code n d belief) (reply result) }
+            ≡ after_enrolling (state self.old register.old.entries.now audit.old) B.LETTER folder (reply result) }
         ensures lent { register.new.entries.ghost_name ≡ register.old.entries.ghost_name }
     {
-        if !is_threshold(n, d) {
+        if !folder.threshold.is_sound() {
             return Err(Refusal::Amount);
         }
-        if is_taken(register, code) {
+        if is_taken(register, folder.code) {
             return Err(Refusal::Code);
         }
         let Some(at) = vacancy(register) else {
             return Err(Refusal::Full);
         };
-        if !self.fits(&belief) {
+        if !self.fits(&folder.belief) {
             return Err(Refusal::Unfit);
         }
         if self.short(audit, ENROLMENT) {
             return Err(Refusal::Short);
         }
-        if !belief.whole() {
+        if !folder.belief.whole() {
             return Err(Refusal::NoMass);
         }
-        if above(n, d, belief.peak(), belief.total()) {
+        if folder
+            .threshold
+            .is_exceeded_by(folder.belief.peak(), folder.belief.total())
+        {
             return Err(Refusal::TooTelling);
         }
-        self.write(audit, &enrolment(code, n, d, B::LETTER));
-        fill(register, at, Folder { code, n, d, belief });
+        self.write(audit, &enrolment(&folder));
+        fill(register, at, folder);
         Ok(at)
     }
-}
-
-// Whether n / d is a threshold.
-fn is_threshold(n: u16, d: u16) -> bool
-    ensures { result ≡ threshold n d }
-{
-    1 <= n && n <= d
 }
 
 // Whether no restorer can be enrolled under a code: it is nobody's, or one has it.
@@ -113,9 +101,14 @@ fn fill<B: Belief>(register: &mut Register<'_, Folder<B>>, at: usize, folder: Fo
     register.put(at, folder);
 }
 
-// The entry of an enrolment.
-fn enrolment<'a>(code: u16, n: u16, d: u16, kind: u8) -> Entry<'a>
-    ensures { result ≡ Entry.Enrolled code n d kind }
+// The entry of the enrolment of a folder.
+fn enrolment<'a, B: Belief>(folder: &Folder<B>) -> Entry<'a>
+    ensures { result ≡ Entry.Enrolled folder.now.code folder.now.threshold.n folder.now.threshold.d B.LETTER }
 {
-    Entry::Enrolled { code, n, d, kind }
+    Entry::Enrolled {
+        code: folder.code,
+        n: folder.threshold.n,
+        d: folder.threshold.d,
+        kind: B::LETTER,
+    }
 }

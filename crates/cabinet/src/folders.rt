@@ -1,21 +1,21 @@
 ghost use Rattle.std.proofs.Common.{rules};
 
+use crate::thresholds::Threshold;
 use belief::Belief;
 use register::Coded;
 
-// A restorer's folder: his code, 0 where the folder is free, his threshold n / d, and his belief.
+// A restorer's folder: his code, 0 where the folder is free, his threshold, and his belief.
 #[derive(Clone, Copy)]
 pub struct Folder<B> {
     pub code: u16,
-    pub n: u16,
-    pub d: u16,
+    pub threshold: Threshold,
     pub belief: B,
 }
 
 impl<B: Belief> Coded for Folder<B> {
     ghost key = { λ f. f.code };
 
-    ghost recoded = { λ c f. record { code = c; n = f.n; d = f.d; belief = f.belief } };
+    ghost recoded = { λ c f. record { code = c; threshold = f.threshold; belief = f.belief } };
 
     ghost under = { Prim.search rules };
 

@@ -9,6 +9,7 @@ ghost use Rattle.history.specs.Judging.{exceeds};
 ghost use Rattle.cabinet.specs.Calls.{judging};
 
 use crate::folders::Folder;
+use crate::thresholds::Threshold;
 use belief::Belief;
 use question::GREATEST;
 use refusal::Refusal;
@@ -34,7 +35,7 @@ pub(crate) fn judge<B: Belief>(
         let (mass, heaviest) = weighed(&folder.belief, question, a, left)?;
         left -= mass;
         possible |= (a == answer) & (mass > 0);
-        telling |= tells(folder.n, folder.d, heaviest, mass);
+        telling |= tells(folder.threshold, heaviest, mass);
     }
     if !possible {
         return Err(Refusal::NoMass);
@@ -68,16 +69,9 @@ fn weighed<B: Belief>(
     Ok((mass, belief.heaviest(question, answer)?))
 }
 
-// Whether an answer of this mass is possible and leaves its heaviest sheet above the threshold n / d.
-fn tells(n: u16, d: u16, heaviest: u64, mass: u64) -> bool
-    ensures { result ≡ (nat_lt 0 mass && exceeds n d heaviest mass) }
+// Whether an answer of this mass is possible and leaves its heaviest sheet above the threshold.
+fn tells(threshold: Threshold, heaviest: u64, mass: u64) -> bool
+    ensures { result ≡ (nat_lt 0 mass && exceeds threshold.n threshold.d heaviest mass) }
 {
-    (mass > 0) & above(n, d, heaviest, mass)
-}
-
-// Whether a part of a whole is more than n / d of it.
-pub(crate) fn above(n: u16, d: u16, part: u64, whole: u64) -> bool
-    ensures { result ≡ exceeds n d part whole }
-{
-    part as u128 * d as u128 > n as u128 * whole as u128
+    (mass > 0) & threshold.is_exceeded_by(heaviest, mass)
 }

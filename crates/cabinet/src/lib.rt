@@ -16,6 +16,7 @@ mod looking;
 mod making;
 mod requests;
 mod sessions;
+mod thresholds;
 mod views;
 mod writing;
 
@@ -23,4 +24,5 @@ pub use cabinets::Cabinet;
 pub use folders::Folder;
 pub use requests::{Call, Return};
 pub use sessions::session;
+pub use thresholds::Threshold;
 pub use views::View;

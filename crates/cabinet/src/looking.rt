@@ -41,8 +41,7 @@ impl Cabinet {
         Ok(View {
             total: folder.belief.total(),
             peak: folder.belief.peak(),
-            n: folder.n,
-            d: folder.d,
+            threshold: folder.threshold,
         })
     }
 }

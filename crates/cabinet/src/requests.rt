@@ -1,22 +1,13 @@
+use crate::folders::Folder;
 use crate::views::View;
 use refusal::Refusal;
 
 // A call that reaches a cabinet, with what it hands in.
 #[derive(Clone, Copy)]
 pub enum Call<'a, B> {
-    Enrol {
-        code: u16,
-        n: u16,
-        d: u16,
-        belief: B,
-    },
-    Ask {
-        code: u16,
-        question: &'a [u8],
-    },
-    Look {
-        code: u16,
-    },
+    Enrol(Folder<B>),
+    Ask { code: u16, question: &'a [u8] },
+    Look { code: u16 },
 }
 
 // What a call returned.

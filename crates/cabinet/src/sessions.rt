@@ -85,9 +85,7 @@ impl Cabinet {
         ensures lent { register.new.entries.ghost_name ≡ register.old.entries.ghost_name }
     {
         match call {
-            Call::Enrol { code, n, d, belief } => Return::Enrolled(self.enrol(
-                register, audit, *code, *n, *d, *belief,
-            )),
+            Call::Enrol(folder) => Return::Enrolled(self.enrol(register, audit, *folder)),
             Call::Ask { code, question } => Return::Asked(self.ask(
                 register, audit, *code, question,
             )),

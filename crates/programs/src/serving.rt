@@ -4,7 +4,7 @@ use crate::plans::{byte, ended, four_bytes, number, two_bytes};
 use crate::reading::{Kind, Script, chosen_kind};
 use crate::weighing::{not_understood, question_bytes};
 use boxes::Boxes;
-use cabinet::{Call, Folder, Return, View, session};
+use cabinet::{Call, Folder, Return, Threshold, View, session};
 use pair::Pair;
 use refusal::Refusal;
 use script::{Declined, Words};
@@ -185,8 +185,7 @@ fn serve_lines<B: Noted>(
     for _ in 0..sizes.places {
         folders.push(Folder {
             code: 0,
-            n: 0,
-            d: 0,
+            threshold: Threshold { n: 0, d: 0 },
             belief: B::default(),
         })?;
     }
@@ -215,12 +214,11 @@ fn serve_lines<B: Noted>(
 // The call that a line makes, if it makes one.
 fn call_of<B: Noted>(line: &Line<B>) -> Option<Call<'_, B>> {
     match line {
-        Line::Enrol { code, n, d, belief } => Some(Call::Enrol {
+        Line::Enrol { code, n, d, belief } => Some(Call::Enrol(Folder {
             code: *code,
-            n: *n,
-            d: *d,
+            threshold: Threshold { n: *n, d: *d },
             belief: *belief,
-        }),
+        })),
         Line::Ask { code, question } => Some(Call::Ask {
             code: *code,
             question: question.as_slice(),
@@ -274,7 +272,6 @@ fn print_refusal(rt: &HostRuntime, name: &str, code: u16, refusal: Refusal) -> i
 fn print_view(rt: &HostRuntime, code: u16, view: View) -> io::Result<()> {
     let total = view.total;
     let peak = view.peak;
-    let n = view.n;
-    let d = view.d;
+    let Threshold { n, d } = view.threshold;
     println!(rt; "look {code}: total {total}, peak {peak}, threshold {n}/{d}")
 }

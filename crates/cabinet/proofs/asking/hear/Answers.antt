@@ -13,7 +13,7 @@ returns g c =
     let ok = c.revise.ensures.replies sound ∙ c.requires.ready d in
     record {
       result = ok;
-      memory = λ code at. heard g.B.Belief.means code (hearing q a) _ d _ c.args.at at (ap (filed _ _ _) (c.revise.ensures.leaves sound ∙ revision _ _ q a ok));
+      memory = λ code at. heard g.B.Belief.means code (hearing q a) _ d _ c.args.at at (ap (filed _ _) (c.revise.ensures.leaves sound ∙ revision _ _ q a ok));
       others = λ code at k. others code _ d k _ c.args.at at refl;
       lent = refl;
     }

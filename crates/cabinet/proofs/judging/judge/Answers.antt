@@ -11,7 +11,7 @@ loop-a-init g c =
     let m = g.B.Belief.means c.args.folder.now.belief in
     let q = c.args.question.now in
     let f = c.args.folder.now in
-    (grind (arith, nat_tests), some_none (is_telling_at m q f.n f.d), omega (arith, c.total-left.ensures c.requires.sound, from_first m q))
+    (grind (arith, nat_tests), some_none (is_telling_at m q f.threshold.n f.threshold.d), omega (arith, c.total-left.ensures c.requires.sound, from_first m q))
 
 pub weighed-requires-clause-rest : goal.weighed-requires-clause-rest
 weighed-requires-clause-rest g c =
@@ -37,7 +37,7 @@ loop-a-preserved g c =
     let mass : c.in_ok-mass.mass ≡ mass_of m q a = ap (λ (p : ℕ × ℕ). p.0) e in
     let most : c.in_ok-mass.heaviest ≡ heaviest_of m q a = ap (λ (p : ℕ × ℕ). p.1) e in (
       own_more (λ k. ltb 0 (mass_of m q k)) c.args.answer a _ _ c.loop-a.invariant.0 (ap (ltb 0) mass),
-      some_more (is_telling_at m q f.n f.d) a _ _ c.loop-a.invariant.1 (telling_is m q f.n f.d a _ _ _ c.tells.ensures mass most),
+      some_more (is_telling_at m q f.threshold.n f.threshold.d) a _ _ c.loop-a.invariant.1 (telling_is m q f.threshold.n f.threshold.d a _ _ _ c.tells.ensures mass most),
       omega (arith, mass, c.loop-a.invariant.2, from_next m q a),
     )
 

@@ -9,5 +9,5 @@ abbrev pub invariant-loop-a : goal.invariant-loop-a
 invariant-loop-a g l =
     let m = g.B.Belief.means l.folder.belief in
     (l.possible ≡ (ltb l.answer l.a && ltb 0 (mass_of m l.question l.answer))) ×
-    (l.telling ≡ some_below l.a (is_telling_at m l.question l.folder.n l.folder.d)) ×
+    (l.telling ≡ some_below l.a (is_telling_at m l.question l.folder.threshold.n l.folder.threshold.d)) ×
     (l.left ≡ mass_from m l.question l.a)

@@ -1,6 +1,6 @@
 use Rattle.std.proofs.Common.{sym, subst}
 use Rattle.refusal.specs.Replies.{reply}
-use Rattle.cabinet.specs.Memory.{filed, state, understood}
+use Rattle.cabinet.specs.Memory.{state, understood}
 use Rattle.cabinet.specs.Sessions.{event, Turns}
 use Rattle.cabinet.specs.declared.requests.Call.{Call}
 use Rattle.cabinet.specs.declared.requests.Return.TheVariants.{Enrolled}
@@ -16,6 +16,6 @@ returns-in-Enrol g c =
     let t = state c.enrol.new.self c.enrol.new.register.entries.now c.enrol.new.audit in
     record {
       turns = subst (λ (call : Call g.row.B.Denot). Turns (understood m s) (event m k call (Enrolled c.enrol.result)) (understood m t)) (sym c.in-Enrol.is)
-          (record { memory = enrol_memory m s t k (filed c.in-Enrol.code c.in-Enrol.n c.in-Enrol.d c.in-Enrol.belief) (reply c.enrol.result) e.memory; goes = e.runs });
+          (record { memory = enrol_memory m s t k c.in-Enrol.folder (reply c.enrol.result) e.memory; goes = e.runs });
       lent = e.lent;
     }

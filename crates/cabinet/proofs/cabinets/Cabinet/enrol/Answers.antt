@@ -1,5 +1,4 @@
 use Rattle.refusal.specs.Replies.{reply}
-use Rattle.cabinet.specs.Memory.{filed}
 use Rattle.cabinet.proofs.Standing.{enrols_on}
 use Rattle.cabinet.proofs.cabinets.Cabinet.enrol.Goals as goal
 
@@ -10,5 +9,5 @@ returns g c =
       result = r.result;
       memory = r.memory;
       lent = r.lent;
-      runs = enrols_on g.B.Belief.means _ g.B.Belief.LETTER (filed c.args.code c.args.n c.args.d c.args.belief) (reply c.admit.result) _ r.result r.memory;
+      runs = enrols_on g.B.Belief.means _ g.B.Belief.LETTER c.args.folder (reply c.admit.result) _ r.result r.memory;
     }
