@@ -88,7 +88,3 @@ module _ {X : Type 0} (means : X → Meaning) (c : Cabinet) (fs : List (Folder X
           sound = λ x. (and_parts _ _ (fits x)).0;
           folder = λ x. rw (found x, fits x);
         }
-
--- a code is taken
-pub taken : {X : Type 0} (means : X → Meaning) (code : ℕ) (fs : List (Folder X)) (r : Bool) → r ≡ is_some (place (λ f. f.code) code fs) → (code ≡ 0 → ⊥) → r ≡ (eqb code 0 || is_some (coded code (map (meant means) fs)))
-taken means code fs r e n = let h : eqb code 0 ≡ false = ne_eqb code 0 n in rw h (rw h at e ∙ coded_is means code fs)

@@ -278,12 +278,6 @@ none_below n p k e l = by (p k) refl
     by true i = absurd (false≢true (sym e ∙ below_some n p k l i))
     by false i = i
 
-pub made : (count : ℕ) (tops sheet : List ℕ) (b d : Bool) (c : Cabinet) → given c ≡ refuse_if b 1 (refuse_if d 2 (given (record { sheet = sheet; count = count; tops = tops; used = 0 }))) →
-    (d ≡ false) × (c ≡ record { sheet = sheet; count = count; tops = tops; used = 0 })
-made count tops sheet true d c e = absurd (let z : ◌≡◌ {A = ℕ} 0 1 = cc in omega arith)
-made count tops sheet false true c e = absurd (let z : ◌≡◌ {A = ℕ} 0 1 = cc in omega arith)
-made count tops sheet false false c e = (refl, cc)
-
 sheet_within : (count : ℕ) (tops sheet : List ℕ) → length tops ≡ 4 → length sheet ≡ 4 → some_below 4 (misfit count tops sheet) ≡ false → Within tops sheet
 sheet_within count tops sheet i j e = record { long = j ∙ sym i; below = λ k. by k (cases_lt k 4) }
   where
@@ -291,14 +285,14 @@ sheet_within count tops sheet i j e = record { long = j ∙ sym i; below = λ k.
     by k (inl l) = value_fits count tops sheet k (none_below 4 (misfit count tops sheet) k e l)
     by k (inr l) = let v : get_or sheet k 0 ≡ 0 = get_or_past sheet k 0 (omega arith) in omega arith
 
-pub begins : (count : ℕ) (tops sheet : List ℕ) (c : Cabinet) → length tops ≡ 4 → length sheet ≡ 4 → given c ≡ making count tops sheet → Begins c
-begins count tops sheet c i j e =
-    let m = made count tops sheet (eqb count 0 || ltb 4 count) (some_below 4 (misfit count tops sheet)) c e in
-    subst Begins (sym m.1) (record {
+pub begins : (count : ℕ) (tops sheet : List ℕ) → length tops ≡ 4 → length sheet ≡ 4 → some_below 4 (misfit count tops sheet) ≡ false →
+    Begins (record { sheet = sheet; count = count; tops = tops; used = 0 })
+begins count tops sheet i j e =
+    record {
       stands = λ fs before free. record {
         follows = tt;
         sheet = refl;
-        within = sheet_within count tops sheet i j m.0;
+        within = sheet_within count tops sheet i j e;
         count = refl;
         tops = refl;
         used = refl;
@@ -307,7 +301,7 @@ begins count tops sheet c i j e =
         places = free ∙ ap (λ n. replicate n 0) (omega arith);
         folders = λ b z. free_coded (length fs) b fs z free;
       };
-    })
+    }
 
 -- folders whose codes were set to 0 are free
 pub freed : {X : Type 0} (means : X → Meaning) (fs : List (Folder X)) →

@@ -1,7 +1,7 @@
 -- One call more of a session: its event, the history with it, and the memory that it leaves.
-use Rattle.std.proofs.Common.{◌≡◌, ℕ, zero, suc, ◌+◌, ◌-◌, ◌<◌, ◌≤◌, min, ◌||◌, eqb, ltb, List, [], ◌∷◌, ◌++◌, map, length, get_or, take, drop, set, sym, refl, ap, ◌∙◌, subst, arith, length-take}
+use Rattle.std.proofs.Common.{◌≡◌, ℕ, zero, suc, ◌+◌, ◌-◌, ◌<◌, ◌≤◌, Bool, true, false, min, ◌||◌, eqb, ltb, List, [], ◌∷◌, ◌++◌, map, length, get_or, take, drop, set, sym, refl, ap, ◌∙◌, subst, arith, length-take}
 use Rattle.std.proofs.lemmas.List.{take_more, take_more_set, drop-set-lt, drop-drop}
-use Rattle.refusal.specs.Replies.{Reply, given}
+use Rattle.refusal.specs.Replies.{Reply, given, refuse_if}
 use Rattle.belief.specs.Meaning.{Meaning}
 use Rattle.history.specs.Events.{Setting, enrols, Past}
 use Rattle.cabinet.specs.declared.cabinets.Cabinet.{Cabinet}
@@ -14,11 +14,17 @@ use Rattle.history.specs.Judging.{some_below}
 use Rattle.history.proofs.Main.{lawful}
 use Rattle.cabinet.specs.Standing.{offering, Stands, Begins}
 use Rattle.cabinet.specs.Sessions.{event, events, after_event, left, Turns, freed, Served}
-use Rattle.cabinet.proofs.Standing.{made, understood_enrolling, freed as codes-free}
+use Rattle.cabinet.proofs.Standing.{understood_enrolling, freed as codes-free}
 
 -- what a making gives
-pub made_is : (count : ℕ) (tops sheet : List ℕ) (c : Cabinet) → given c ≡ making count tops sheet → c ≡ record { sheet = sheet; count = count; tops = tops; used = 0 }
-made_is count tops sheet c e = (made count tops sheet (eqb count 0 || ltb 4 count) (some_below 4 (misfit count tops sheet)) c e).1
+made_is : (count : ℕ) (tops sheet : List ℕ) (c : Cabinet) → given c ≡ making count tops sheet → c ≡ record { sheet = sheet; count = count; tops = tops; used = 0 }
+made_is count tops sheet c e = by (eqb count 0 || ltb 4 count) (some_below 4 (misfit count tops sheet)) e
+  where
+    by : (b d : Bool) → given c ≡ refuse_if b 1 (refuse_if d 2 (given (record { sheet = sheet; count = count; tops = tops; used = 0 }))) →
+        c ≡ record { sheet = sheet; count = count; tops = tops; used = 0 }
+    by true d i = cc
+    by false true i = cc
+    by false false i = cc
 
 -- what an enrolment leaves, by what the beliefs mean
 pub enrol_memory : {X : Type 0} (means : X → Meaning) (s t : State X) (kind : ℕ) (f : Folder X) (r : Reply ℕ) → t ≡ after_enrolling s kind f r →

@@ -5,7 +5,7 @@ use Rattle.refusal.specs.Replies.{Reply, given, declined, number_of, place_of}
 use Rattle.question.specs.Expressions.{greatest}
 use Rattle.belief.specs.Meaning.{Meaning}
 use Rattle.belief.specs.Calls.{revising}
-use Rattle.register.specs.Places.{first}
+use Rattle.register.specs.Places.{first, vacant}
 use Rattle.audit.specs.Format.{asks, declines}
 use Rattle.cabinet.specs.declared.cabinets.Cabinet.{Cabinet}
 use Rattle.cabinet.specs.declared.folders.Folder.{Folder}
@@ -23,6 +23,11 @@ pub record Found {X : Type 0} (means : X → Meaning) (c : Cabinet) (fs : List (
 pub record Missing {X : Type 0} (means : X → Meaning) (c : Cabinet) (fs : List (Folder X)) (code : ℕ) (e : Refusal) : Type 0 where
   pub is : known c (map (meant means) fs) code ≡ declined (number_of e) (place_of e)
   pub quiet : declines (number_of e) ≡ false
+
+-- place i is the first that is free, and the entry of an enrolment can be written
+pub record Free {X : Type 0} (c : Cabinet) (fs : List (Folder X)) (audit : List ℕ) (i : ℕ) : Type 0 where
+  pub place : vacant (λ f. f.code) fs ≡ Some i
+  pub room : c.used + 8 ≤ length audit
 
 -- the entry of a question can be written: the question is of a length that an audit holds, and there is room
 pub record Room (cabinet : Cabinet) (audit q : List ℕ) : Type 0 where

@@ -40,23 +40,6 @@ impl Cabinet {
             (asks code question.now (reply result))
             (understood B.means (state self.new register.new.entries.now audit.new)) }
     {
-        self.serve(register, audit, code, question)
-    }
-
-    // The same, by its reply and what it leaves.
-    fn serve<B: Belief>(
-        &mut self,
-        register: &mut Register<'_, Folder<B>>,
-        audit: &mut [u8],
-        code: u16,
-        question: &[u8],
-    ) -> Result<u8, Refusal>
-        ensures result { reply result ≡ asking (understood B.means (state self.old register.old.entries.now audit.old)) code question.now }
-        ensures memory { understood B.means (state self.new register.new.entries.now audit.new)
-            ≡ after_asking (understood B.means (state self.old register.old.entries.now audit.old)) code question.now (reply result) }
-        ensures others { Others code (reply result) register.old.entries.now register.new.entries.now }
-        ensures lent { register.new.entries.ghost_name ≡ register.old.entries.ghost_name }
-    {
         let at = self.known(register, code)?;
         match self.weigh(&register.entries[at], audit, question) {
             Ok(answer) => {

@@ -24,17 +24,6 @@ impl Cabinet {
         ensures runs { (audit : List ℕ) → GoesOn (understood B.means (state self.now register.now.entries.now audit))
             (looks code (mapped viewed (reply result))) (understood B.means (state self.now register.exit.now.entries.now audit)) }
     {
-        self.show(register, code)
-    }
-
-    // The same, by its reply alone.
-    fn show<B: Belief>(
-        &self,
-        register: &Register<'_, Folder<B>>,
-        code: u16,
-    ) -> Result<View, Refusal>
-        ensures { reply result ≡ looking self.now (map (meant B.means) register.now.entries.now) code }
-    {
         let at = self.known(register, code)?;
         let folders = &*register.entries;
         let folder = &folders[at];

@@ -14,13 +14,6 @@ impl Cabinet {
         ensures result { reply result ≡ making count tops sheet }
         ensures begins { IfOk result Begins }
     {
-        Cabinet::seal(count, tops, sheet)
-    }
-
-    // The same, by its reply alone.
-    fn seal(count: u8, tops: [u8; 4], sheet: [u8; 4]) -> Result<Cabinet, Refusal>
-        ensures { reply result ≡ making count tops sheet }
-    {
         if count == 0 || count > FIELDS {
             return Err(Refusal::Span);
         }
