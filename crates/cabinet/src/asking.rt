@@ -1,11 +1,9 @@
-ghost use Rattle.std.specs.Prelude.{◌≡◌, ℕ, ◌<◌, true, List, map, length, Some, slice_index_or};
-ghost use Rattle.refusal.specs.Replies.{reply, given, number_of};
-ghost use Rattle.belief.specs.Calls.{revising};
-ghost use Rattle.register.specs.Places.{first};
+ghost use Rattle.std.specs.Prelude.{◌≡◌, ℕ, true, List};
+ghost use Rattle.refusal.specs.Replies.{reply, number_of};
 ghost use Rattle.history.specs.Events.{asks};
 ghost use Rattle.audit.specs.Format.{declines};
-ghost use Rattle.cabinet.specs.Memory.{meant, understood, state, changed};
-ghost use Rattle.cabinet.specs.Calls.{hearing, answering, asking, after_asking, Others};
+ghost use Rattle.cabinet.specs.Memory.{meant, understood, state};
+ghost use Rattle.cabinet.specs.Calls.{answering, asking, after_asking, Others};
 ghost use Rattle.cabinet.specs.Inner.{Ready};
 ghost use Rattle.cabinet.specs.Standing.{GoesOn};
 ghost use Rattle.cabinet.specs.declared.folders.Folder.{Folder};
@@ -43,7 +41,7 @@ impl Cabinet {
         let at = self.known(register, code)?;
         match self.weigh(&register.entries[at], audit, question) {
             Ok(answer) => {
-                hear(register, at, question, answer)?;
+                register.entries[at].belief.revise(question, answer)?;
                 self.write(
                     audit,
                     &Entry::Answered {
@@ -91,32 +89,9 @@ impl Cabinet {
     }
 }
 
-// Revises the belief of the folder at a place, which is the first with the code, by an answer.
-fn hear<B: Belief>(
-    register: &mut Register<'_, Folder<B>>,
-    at: usize,
-    question: &[u8],
-    answer: u8,
-) -> Result<(), Refusal>
-    requires within { at < length register.old.entries.now }
-    requires sound { (f : Folder B) → (B.means (slice_index_or register.old.entries.now at f).belief).sound ≡ true }
-    requires ready { (f : Folder B) → revising (B.means (slice_index_or register.old.entries.now at f).belief) question.now answer ≡ given tt }
-    ensures result { reply result ≡ given tt }
-    ensures memory { (code : ℕ) → first (λ f. f.code) code register.old.entries.now ≡ Some at →
-        map (meant B.means) register.new.entries.now ≡ changed code (hearing question.now answer) (map (meant B.means) register.old.entries.now) }
-    ensures others { (code : ℕ) → first (λ f. f.code) code register.old.entries.now ≡ Some at →
-        Others code (given answer) register.old.entries.now register.new.entries.now }
-    ensures lent { register.new.entries.ghost_name ≡ register.old.entries.ghost_name }
-{
-    register.entries[at].belief.revise(question, answer)
-}
-
 // Whether a refusal is written into the audit.
 fn is_written(refusal: Refusal) -> bool
     ensures { result ≡ declines (number_of refusal) }
 {
-    match refusal {
-        Refusal::NotCarried | Refusal::TooTelling => true,
-        _ => false,
-    }
+    matches!(refusal, Refusal::NotCarried | Refusal::TooTelling)
 }

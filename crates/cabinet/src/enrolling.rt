@@ -1,8 +1,7 @@
-ghost use Rattle.std.specs.Prelude.{◌≡◌, ◌||◌, ◌+◌, ◌≤◌, map, length, is_some, Some, ◌==◌, IfOk};
+ghost use Rattle.std.specs.Prelude.{◌≡◌, IfOk};
 ghost use Rattle.refusal.specs.Replies.{reply};
-ghost use Rattle.register.specs.Places.{vacant};
 ghost use Rattle.history.specs.Events.{enrols};
-ghost use Rattle.cabinet.specs.Memory.{meant, understood, state, coded, changed};
+ghost use Rattle.cabinet.specs.Memory.{meant, understood, state};
 ghost use Rattle.cabinet.specs.Calls.{enrolling, after_enrolling};
 ghost use Rattle.cabinet.specs.Inner.{Free};
 ghost use Rattle.cabinet.specs.Standing.{GoesOn, offering};
