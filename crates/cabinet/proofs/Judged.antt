@@ -1,5 +1,5 @@
 -- One answer more is judged.
-use Rattle.std.proofs.Common.{◌≡◌, ℕ, ◌+◌, Bool, true, false, not, ◌&&◌, ◌||◌, eqb, ltb, List, [], refl, ◌∙◌, add-one, arith}
+use Rattle.std.proofs.Common.{◌≡◌, ℕ, zero, suc, ◌+◌, ◌≤◌, Bool, true, false, not, ◌&&◌, ◌||◌, eqb, ltb, List, [], refl, ◌∙◌, add-one, arith}
 use Rattle.std.proofs.lemmas.Bool.Decides.{nat_tests}
 use Rattle.refusal.specs.Replies.{Reply, given, declined, and_then, refuse_if}
 use Rattle.question.specs.Expressions.{Expression}
@@ -30,9 +30,13 @@ value_is {V} m q x v e = go (reading q) (m.carries [] q) e
     go (given t) false i = cc
     go (declined n p) b i = cc
 
--- the test of one answer, from its mass and its heaviest
-pub telling_is : (m : Meaning) (q : List ℕ) (n d a x y : ℕ) (r : Bool) → r ≡ (ltb 0 x && exceeds n d y x) → x ≡ mass_of m q a → y ≡ heaviest_of m q a → r ≡ is_telling_at m q n d a
-telling_is m q n d a x y r e f h = e ∙ rw (f, h)
+-- the test of one answer, from its mass and its heaviest: an answer without mass is not above any threshold
+pub telling_is : (m : Meaning) (q : List ℕ) (n d a x y : ℕ) (r : Bool) → r ≡ exceeds n d y x → x ≡ mass_of m q a → y ≡ heaviest_of m q a → r ≡ is_telling_at m q n d a
+telling_is m q n d a x y r e f h = e ∙ rw (f, h) (by (mass_of m q a) (heaviest_of m q a) (heaviest_mass m q a))
+  where
+    by : (mass most : ℕ) → most ≤ mass → exceeds n d most mass ≡ (ltb 0 mass && exceeds n d most mass)
+    by zero most l = let z : most ≡ 0 = omega arith in rw z (grind (arith, nat_tests))
+    by (suc mass) most l = grind (arith, nat_tests)
 
 -- an answer without mass has no heaviest sheet
 pub weightless : (m : Meaning) (q : List ℕ) (a : ℕ) → mass_of m q a ≡ 0 → ◌≡◌ {A = Reply (ℕ × ℕ)} (given (0, 0)) (given (mass_of m q a, heaviest_of m q a))

@@ -17,7 +17,7 @@ impl Cabinet {
         belief.sound()
             && belief.first() == 0
             && belief.count() == self.count
-            && same(belief.tops(), self.tops)
+            && belief.tops() == self.tops
     }
 
     // The place of the folder of a code, if its belief fits the cabinet.
@@ -45,11 +45,4 @@ impl Cabinet {
     {
         audit.len().saturating_sub(self.used) < need
     }
-}
-
-// Whether two spans have the same tops.
-fn same(tops: [u8; 4], others: [u8; 4]) -> bool
-    ensures { result ≡ bytes_eq tops others }
-{
-    tops == others
 }

@@ -1,15 +1,13 @@
-ghost use Rattle.std.specs.Prelude.{◌≡◌, ◌≤◌, true, ◌&&◌, nat_lt};
+ghost use Rattle.std.specs.Prelude.{◌≡◌, ◌≤◌, true};
 ghost use Rattle.refusal.specs.Replies.{reply, given, and_then};
 ghost use Rattle.belief.specs.Meaning.{mass_of, heaviest_of};
 ghost use Rattle.belief.specs.Calls.{carrying};
 ghost use Rattle.question.specs.Expressions.{greatest};
 ghost use Rattle.question.specs.Reading.{reading};
 ghost use Rattle.cabinet.specs.Memory.{meant};
-ghost use Rattle.history.specs.Judging.{exceeds};
 ghost use Rattle.cabinet.specs.Calls.{judging};
 
 use crate::folders::Folder;
-use crate::thresholds::Threshold;
 use belief::Belief;
 use question::GREATEST;
 use refusal::Refusal;
@@ -35,7 +33,7 @@ pub(crate) fn judge<B: Belief>(
         let (mass, heaviest) = weighed(&folder.belief, question, a, left)?;
         left -= mass;
         possible |= (a == answer) & (mass > 0);
-        telling |= tells(folder.threshold, heaviest, mass);
+        telling |= folder.threshold.is_exceeded_by(heaviest, mass);
     }
     if !possible {
         return Err(Refusal::NoMass);
@@ -67,11 +65,4 @@ fn weighed<B: Belief>(
         return Ok((0, 0));
     }
     Ok((mass, belief.heaviest(question, answer)?))
-}
-
-// Whether an answer of this mass is possible and leaves its heaviest sheet above the threshold.
-fn tells(threshold: Threshold, heaviest: u64, mass: u64) -> bool
-    ensures { result ≡ (nat_lt 0 mass && exceeds threshold.n threshold.d heaviest mass) }
-{
-    (mass > 0) & threshold.is_exceeded_by(heaviest, mass)
 }

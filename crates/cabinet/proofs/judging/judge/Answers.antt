@@ -37,7 +37,7 @@ loop-a-preserved g c =
     let mass : c.in_ok-mass.mass ≡ mass_of m q a = ap (λ (p : ℕ × ℕ). p.0) e in
     let most : c.in_ok-mass.heaviest ≡ heaviest_of m q a = ap (λ (p : ℕ × ℕ). p.1) e in (
       own_more (λ k. ltb 0 (mass_of m q k)) c.args.answer a _ _ c.loop-a.invariant.0 (ap (ltb 0) mass),
-      some_more (is_telling_at m q f.threshold.n f.threshold.d) a _ _ c.loop-a.invariant.1 (telling_is m q f.threshold.n f.threshold.d a _ _ _ c.tells.ensures mass most),
+      some_more (is_telling_at m q f.threshold.n f.threshold.d) a _ _ c.loop-a.invariant.1 (telling_is m q f.threshold.n f.threshold.d a _ _ _ c.is_exceeded_by.ensures mass most),
       omega (arith, mass, c.loop-a.invariant.2, from_next m q a),
     )
 
