@@ -21,15 +21,6 @@ some_more p k f x e h = rw add-one (rw (e, h))
 pub own_more : (p : ℕ → Bool) (x a : ℕ) (f v : Bool) → f ≡ (ltb x a && p x) → v ≡ p a → (f || (eqb a x && v)) ≡ (ltb x (a + 1) && p x)
 own_more p x a f v e i = grind (arith, nat_tests)
 
--- a value that was given is the one that is owed
-pub value_is : {V : Type 0} (m : Meaning) (q : List ℕ) (x v : V) → ◌≡◌ {A = Reply V} (given x) (replied m q v) → x ≡ v
-value_is {V} m q x v e = go (reading q) (m.carries [] q) e
-  where
-    go : (o : Reply Expression) (b : Bool) → ◌≡◌ {A = Reply V} (given x) (and_then o (λ _. refuse_if (not b) 12 (given v))) → x ≡ v
-    go (given t) true i = cc
-    go (given t) false i = cc
-    go (declined n p) b i = cc
-
 -- the test of one answer, from its mass and its heaviest: an answer without mass is not above any threshold
 pub telling_is : (m : Meaning) (q : List ℕ) (n d a x y : ℕ) (r : Bool) → r ≡ exceeds n d y x → x ≡ mass_of m q a → y ≡ heaviest_of m q a → r ≡ is_telling_at m q n d a
 telling_is m q n d a x y r e f h = e ∙ rw (f, h) (by (mass_of m q a) (heaviest_of m q a) (heaviest_mass m q a))
@@ -37,10 +28,6 @@ telling_is m q n d a x y r e f h = e ∙ rw (f, h) (by (mass_of m q a) (heaviest
     by : (mass most : ℕ) → most ≤ mass → exceeds n d most mass ≡ (ltb 0 mass && exceeds n d most mass)
     by zero most l = let z : most ≡ 0 = omega arith in rw z (grind (arith, nat_tests))
     by (suc mass) most l = grind (arith, nat_tests)
-
--- an answer without mass has no heaviest sheet
-pub weightless : (m : Meaning) (q : List ℕ) (a : ℕ) → mass_of m q a ≡ 0 → ◌≡◌ {A = Reply (ℕ × ℕ)} (given (0, 0)) (given (mass_of m q a, heaviest_of m q a))
-weightless m q a e = let h : heaviest_of m q a ≡ 0 = omega (arith, heaviest_mass m q a) in rw (e, h)
 
 -- what was given is what was owed
 pub given_is : {V : Type 0} (x v : V) → ◌≡◌ {A = Reply V} (given x) (given v) → x ≡ v

@@ -14,6 +14,7 @@ use refusal::Refusal;
 
 // Whether a question may be answered with this answer, the sheet's own: it is carried, the answer is possible, and no answer
 // to it is too telling. Once the answers looked at have all the weight, no further one is possible.
+#[tactic(auto, using(crate::proofs::Left::from_first, crate::proofs::Left::from_next, crate::proofs::Judged::some_none), unfolding(history::specs::Judging::telling))]
 pub(crate) fn judge<B: Belief>(
     folder: &Folder<B>,
     question: &[u8],
@@ -46,6 +47,7 @@ pub(crate) fn judge<B: Belief>(
 
 // The mass of an answer to a question that is carried, and its heaviest sheet. Nothing is looked at where no weight is left
 // for it, and no heaviest sheet is sought where the mass is 0.
+#[tactic(auto, using(belief::proofs::Sums::heaviest_mass))]
 fn weighed<B: Belief>(
     belief: &B,
     question: &[u8],

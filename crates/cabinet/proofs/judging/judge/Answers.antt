@@ -1,31 +1,9 @@
-use Rattle.std.proofs.Common.{◌≡◌, ℕ, ltb, ap, arith, rules}
-use Rattle.std.proofs.lemmas.Bool.Decides.{nat_tests}
+use Rattle.std.proofs.Common.{◌≡◌, ℕ, ltb, ap, arith}
 use Rattle.belief.specs.Meaning.{mass_of, heaviest_of}
-use Rattle.history.specs.Judging.{is_telling_at, telling}
-use Rattle.cabinet.proofs.Judged.{some_none, some_more, own_more, given_is, telling_is}
-use Rattle.cabinet.proofs.Left.{from_first, from_next}
+use Rattle.history.specs.Judging.{is_telling_at}
+use Rattle.cabinet.proofs.Judged.{some_more, own_more, given_is, telling_is}
+use Rattle.cabinet.proofs.Left.{from_next}
 use Rattle.cabinet.proofs.judging.judge.Goals as goal
-
-pub loop-a-init : goal.loop-a-init
-loop-a-init g c =
-    let m = g.B.Belief.means c.args.folder.now.belief in
-    let q = c.args.question.now in
-    let f = c.args.folder.now in
-    (grind (arith, nat_tests), some_none (is_telling_at m q f.threshold.n f.threshold.d), omega (arith, c.total-left.ensures c.requires.sound, from_first m q))
-
-pub weighed-requires-clause-rest : goal.weighed-requires-clause-rest
-weighed-requires-clause-rest g c =
-    let m = g.B.Belief.means c.args.folder.now.belief in
-    omega (arith, c.loop-a.invariant.2, from_next m c.args.question.now c.loop-a.a)
-
-pub overflow_sub-left : goal.overflow_sub-left
-overflow_sub-left g c =
-    let m = g.B.Belief.means c.args.folder.now.belief in
-    let q = c.args.question.now in
-    let a = c.loop-a.a in
-    let e = given_is _ (mass_of m q a, heaviest_of m q a) c.in_ok-mass.ensures in
-    let mass : c.in_ok-mass.mass ≡ mass_of m q a = ap (λ (p : ℕ × ℕ). p.0) e in
-    omega (arith, mass, c.loop-a.invariant.2, from_next m q a)
 
 pub loop-a-preserved : goal.loop-a-preserved
 loop-a-preserved g c =
@@ -40,11 +18,3 @@ loop-a-preserved g c =
       some_more (is_telling_at m q f.threshold.n f.threshold.d) a _ _ c.loop-a.invariant.1 (telling_is m q f.threshold.n f.threshold.d a _ _ _ c.is_exceeded_by.ensures mass most),
       omega (arith, mass, c.loop-a.invariant.2, from_next m q a),
     )
-
-pub returns-then-telling : goal.returns-then-telling
-unfolding telling
-returns-then-telling g c = search rules
-
-pub returns : goal.returns
-unfolding telling
-returns g c = search rules
