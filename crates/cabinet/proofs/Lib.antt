@@ -1,4 +1,5 @@
 pub mod Judged
+pub mod Made
 pub mod Left
 pub mod Places
 pub mod Heard

@@ -278,6 +278,12 @@ none_below n p k e l = by (p k) refl
     by true i = absurd (false≢true (sym e ∙ below_some n p k l i))
     by false i = i
 
+pub made : (count : ℕ) (tops sheet : List ℕ) (b d : Bool) (c : Cabinet) → given c ≡ refuse_if b 1 (refuse_if d 2 (given (record { sheet = sheet; count = count; tops = tops; used = 0 }))) →
+    (d ≡ false) × (c ≡ record { sheet = sheet; count = count; tops = tops; used = 0 })
+made count tops sheet true d c e = cc
+made count tops sheet false true c e = cc
+made count tops sheet false false c e = (refl, cc)
+
 sheet_within : (count : ℕ) (tops sheet : List ℕ) → length tops ≡ 4 → length sheet ≡ 4 → some_below 4 (misfit count tops sheet) ≡ false → Within tops sheet
 sheet_within count tops sheet i j e = record { long = j ∙ sym i; below = λ k. by k (cases_lt k 4) }
   where
@@ -285,14 +291,15 @@ sheet_within count tops sheet i j e = record { long = j ∙ sym i; below = λ k.
     by k (inl l) = value_fits count tops sheet k (none_below 4 (misfit count tops sheet) k e l)
     by k (inr l) = let v : get_or sheet k 0 ≡ 0 = get_or_past sheet k 0 (omega arith) in omega arith
 
-pub begins : (count : ℕ) (tops sheet : List ℕ) → length tops ≡ 4 → length sheet ≡ 4 → some_below 4 (misfit count tops sheet) ≡ false →
+pub begins : (count : ℕ) (tops sheet : List ℕ) → length tops ≡ 4 → length sheet ≡ 4 → given (record { sheet = sheet; count = count; tops = tops; used = 0 }) ≡ making count tops sheet →
     Begins (record { sheet = sheet; count = count; tops = tops; used = 0 })
 begins count tops sheet i j e =
+    let m = made count tops sheet (eqb count 0 || ltb 4 count) (some_below 4 (misfit count tops sheet)) _ e in
     record {
       stands = λ fs before free. record {
         follows = tt;
         sheet = refl;
-        within = sheet_within count tops sheet i j e;
+        within = sheet_within count tops sheet i j m.0;
         count = refl;
         tops = refl;
         used = refl;

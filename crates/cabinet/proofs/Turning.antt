@@ -14,17 +14,11 @@ use Rattle.history.specs.Judging.{some_below}
 use Rattle.history.proofs.Main.{lawful}
 use Rattle.cabinet.specs.Standing.{offering, Stands, Begins}
 use Rattle.cabinet.specs.Sessions.{event, events, after_event, left, Turns, freed, Served}
-use Rattle.cabinet.proofs.Standing.{understood_enrolling, freed as codes-free}
+use Rattle.cabinet.proofs.Standing.{made, understood_enrolling, freed as codes-free}
 
 -- what a making gives
 made_is : (count : ℕ) (tops sheet : List ℕ) (c : Cabinet) → given c ≡ making count tops sheet → c ≡ record { sheet = sheet; count = count; tops = tops; used = 0 }
-made_is count tops sheet c e = by (eqb count 0 || ltb 4 count) (some_below 4 (misfit count tops sheet)) e
-  where
-    by : (b d : Bool) → given c ≡ refuse_if b 1 (refuse_if d 2 (given (record { sheet = sheet; count = count; tops = tops; used = 0 }))) →
-        c ≡ record { sheet = sheet; count = count; tops = tops; used = 0 }
-    by true d i = cc
-    by false true i = cc
-    by false false i = cc
+made_is count tops sheet c e = (made count tops sheet (eqb count 0 || ltb 4 count) (some_below 4 (misfit count tops sheet)) c e).1
 
 -- what an enrolment leaves, by what the beliefs mean
 pub enrol_memory : {X : Type 0} (means : X → Meaning) (s t : State X) (kind : ℕ) (f : Folder X) (r : Reply ℕ) → t ≡ after_enrolling s kind f r →
