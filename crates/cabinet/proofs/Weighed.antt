@@ -14,24 +14,7 @@ use Rattle.cabinet.specs.Memory.{State, state}
 use Rattle.cabinet.specs.Calls.{known, judging, answering, asking}
 use Rattle.cabinet.specs.Inner.{Room, Ready}
 
--- bytes that are no question get a refusal that is not written
-pub quiet : (n : ℕ) → (n ≡ 9) ⊎ (n ≡ 10) → declines n ≡ false
-quiet n (inl e) = rw e
-quiet n (inr e) = rw e
-
 module _ (s : State Meaning) (q : List ℕ) (f : Folder Meaning) where
-  -- refused before it is judged
-  pub unread : (code n : ℕ) (p : Option ℕ) → reading q ≡ declined n p → declined n p ≡ answering s code q f
-  unread code n p e = rw e
-
-  -- judged
-  pub weighed : (code a : ℕ) (r : Reply ℕ) → r ≡ and_then (reading q) (λ e. judging f q a) → a ≡ answers q s.cabinet.sheet →
-      false ≡ ltb (length s.audit - s.cabinet.used) (5 + length q) → r ≡ answering s code q f
-  weighed code a r e i h =
-      let k : ltb (length s.audit - s.cabinet.used) (length (encode (answered code (answers q s.cabinet.sheet) q))) ≡ false
-      = ap (ltb (length s.audit - s.cabinet.used)) (omega arith) ∙ sym h in
-      e ∙ rw (i, k)
-
   pub has_room : asks (length q) ≡ true → false ≡ ltb (length s.audit - s.cabinet.used) (5 + length q) → Room s.cabinet s.audit q
   has_room e h = let k = ltb-false _ _ (sym h) in record { asked = e; free = omega arith }
 

@@ -71,6 +71,7 @@ impl Cabinet {
     }
 
     // The sheet's answer to a question of a folder, if it may be heard.
+    #[tactic(auto, using(question::proofs::Questions::answers_small))]
     fn weigh<B: Belief>(
         &self,
         folder: &Folder<B>,

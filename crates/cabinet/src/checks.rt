@@ -32,6 +32,7 @@ impl Cabinet {
         let Some(at) = register.place(code) else {
             return Err(Refusal::Code);
         };
+        // the slice is taken whole, since the proof can't follow a part lent through the `&mut` behind this `&`
         let folders = &*register.entries;
         if !self.fits(&folders[at].belief) {
             return Err(Refusal::Unfit);

@@ -25,6 +25,7 @@ impl Cabinet {
             (looks code (mapped viewed (reply result))) (understood B.means (state self.now register.exit.now.entries.now audit)) }
     {
         let at = self.known(register, code)?;
+        // the slice is taken whole, since the proof can't follow a part lent through the `&mut` behind this `&`
         let folders = &*register.entries;
         let folder = &folders[at];
         Ok(View {
