@@ -49,9 +49,9 @@ Taken cs = AllByRecursion (λ c. c ≡ 0 → ⊥) cs
 module _ {X : Type 0} where
   pub vacant_is : (k : ℕ) (cs : List ℕ) (fs : List (Folder X)) → Taken cs → map code fs ≡ cs ++ replicate k 0 → vacant code fs ≡ cond (eqb k 0) None (Some (length cs))
   vacant_is zero [] [] n e = refl
-  vacant_is (suc k) [] [] n e = absurd (let z : ◌≡◌ {A = ℕ} 0 1 = cc in omega arith)
-  vacant_is k (c ∷ cs) [] n e = absurd (let z : ◌≡◌ {A = ℕ} 0 1 = cc in omega arith)
-  vacant_is zero [] (f ∷ fs) n e = absurd (let z : ◌≡◌ {A = ℕ} 0 1 = cc in omega arith)
+  vacant_is (suc k) [] [] n e = cc
+  vacant_is k (c ∷ cs) [] n e = cc
+  vacant_is zero [] (f ∷ fs) n e = cc
   vacant_is (suc k) [] (f ∷ fs) n e =
       ap (λ t. cond t (Some 0) (option_map suc (vacant code fs))) (eq-eqb f.code 0 (cc))
       ∙ sym (ap (λ t. cond t None (Some 0)) (ne_eqb (suc k) 0 (λ z. omega arith)))
@@ -66,15 +66,15 @@ module _ {X : Type 0} where
   -- no code but 0 is found among free folders
   pub free_coded : (k c : ℕ) (fs : List (Folder X)) → (c ≡ 0 → ⊥) → map code fs ≡ replicate k 0 → coded c fs ≡ None
   free_coded k c [] n e = refl
-  free_coded zero c (f ∷ fs) n e = absurd (let z : ◌≡◌ {A = ℕ} 0 1 = cc in omega arith)
+  free_coded zero c (f ∷ fs) n e = cc
   free_coded (suc k) c (f ∷ fs) n e =
       ap (λ t. cond t (Some f) (coded c fs)) (ne_eqb f.code c (λ z. n (cc))) ∙ free_coded k c fs n (cc)
 
   -- a folder in the first free place
   module _ (g : Folder X) where
     pub put_codes : (k : ℕ) (cs : List ℕ) (fs : List (Folder X)) → Taken cs → map code fs ≡ cs ++ replicate (suc k) 0 → map code (changed 0 (λ f. g) fs) ≡ cs ++ (g.code ∷ replicate k 0)
-    put_codes k [] [] n e = absurd (let z : ◌≡◌ {A = ℕ} 0 1 = cc in omega arith)
-    put_codes k (c ∷ cs) [] n e = absurd (let z : ◌≡◌ {A = ℕ} 0 1 = cc in omega arith)
+    put_codes k [] [] n e = cc
+    put_codes k (c ∷ cs) [] n e = cc
     put_codes k [] (f ∷ fs) n e =
         ap (λ t. map code (cond t (g ∷ fs) (f ∷ changed 0 (λ f. g) fs))) (eq-eqb f.code 0 (cc)) ∙ ap (λ ns. g.code ∷ ns) (cc)
     put_codes k (c ∷ cs) (f ∷ fs) n e =
@@ -83,8 +83,8 @@ module _ {X : Type 0} where
 
     pub coded_put : (k : ℕ) (cs : List ℕ) (fs : List (Folder X)) (c : ℕ) → Taken cs → map code fs ≡ cs ++ replicate (suc k) 0 → (c ≡ 0 → ⊥) → coded g.code fs ≡ None →
         coded c (changed 0 (λ f. g) fs) ≡ cond (eqb g.code c) (Some g) (coded c fs)
-    coded_put k [] [] c n e z o = absurd (let z : ◌≡◌ {A = ℕ} 0 1 = cc in omega arith)
-    coded_put k (b ∷ cs) [] c n e z o = absurd (let z : ◌≡◌ {A = ℕ} 0 1 = cc in omega arith)
+    coded_put k [] [] c n e z o = cc
+    coded_put k (b ∷ cs) [] c n e z o = cc
     coded_put k [] (f ∷ fs) c n e z o =
         ap (λ t. coded c (cond t (g ∷ fs) (f ∷ changed 0 (λ f. g) fs))) (eq-eqb f.code 0 (cc))
         ∙ ap (λ t. cond (eqb g.code c) (Some g) (cond t (Some f) (coded c fs))) (sym (ne_eqb f.code c (λ i. z (cc))))
@@ -95,7 +95,7 @@ module _ {X : Type 0} where
         by : (s : Bool) → eqb f.code g.code ≡ s → (u : Bool) → eqb f.code c ≡ u → (t : Bool) → eqb g.code c ≡ t → cond s (Some f) (coded g.code fs) ≡ None →
             (coded g.code fs ≡ None → coded c (changed 0 (λ f. g) fs) ≡ cond t (Some g) (coded c fs)) →
             cond u (Some f) (coded c (changed 0 (λ f. g) fs)) ≡ cond t (Some g) (cond u (Some f) (coded c fs))
-        by true i u j t l o h = absurd (let z : ◌≡◌ {A = ℕ} 0 1 = cc in omega arith)
+        by true i u j t l o h = cc
         by false i true j true l o h = absurd (false≢true (sym i ∙ eq-eqb f.code g.code (eqb-true f.code c j ∙ sym (eqb-true g.code c l))))
         by false i true j false l o h = refl
         by false i false j t l o h = h o

@@ -17,14 +17,14 @@ first_of c fs = first (λ f. f.code) c fs
 
 module _ {X : Type 0} (means : X → Meaning) (c : ℕ) where
   pub coded_some : (fs : List (Folder X)) (i : ℕ) (d : Folder X) → first_of c fs ≡ Some i → coded c (map (meant means) fs) ≡ Some (meant means (get_or fs i d))
-  coded_some [] i d e = let z : ◌≡◌ {A = ℕ} 0 1 = cc in absurd (omega arith)
+  coded_some [] i d e = cc
   coded_some (f ∷ fs) i d e = go (eqb f.code c) (first_of c fs) (λ j. coded_some fs j d) e
     where
       go : (b : Bool) (o : Option ℕ) → ((j : ℕ) → o ≡ Some j → coded c (map (meant means) fs) ≡ Some (meant means (get_or fs j d))) → cond b (Some 0) (option_map suc o) ≡ Some i →
           cond b (Some (meant means f)) (coded c (map (meant means) fs)) ≡ Some (meant means (get_or (f ∷ fs) i d))
       go true o ih e = let z : i ≡ 0 = cc in rw z
       go false (Some j) ih e = let z : i ≡ suc j = cc in rw z (ih j refl)
-      go false None ih e = let z : ◌≡◌ {A = ℕ} 0 1 = cc in absurd (omega arith)
+      go false None ih e = cc
 
   -- whether there is one
   pub coded_is : (fs : List (Folder X)) → is_some (first_of c fs) ≡ is_some (coded c (map (meant means) fs))
@@ -48,18 +48,18 @@ none_is None e = refl
 
 -- a folder put at the first place of a code
 pub set_changed : {X : Type 0} (c : ℕ) (fs : List (Folder X)) (i : ℕ) (g : Folder X) → first_of c fs ≡ Some i → set fs i g ≡ changed c (λ f. g) fs
-set_changed c [] i g e = let z : ◌≡◌ {A = ℕ} 0 1 = cc in absurd (omega arith)
+set_changed c [] i g e = cc
 set_changed {X} c (f ∷ fs) i g e = go (eqb f.code c) (first_of c fs) (λ j. set_changed c fs j g) e
   where
     go : (b : Bool) (o : Option ℕ) → ((j : ℕ) → o ≡ Some j → set fs j g ≡ changed c (λ f. g) fs) → cond b (Some 0) (option_map suc o) ≡ Some i →
         set (f ∷ fs) i g ≡ cond b (g ∷ fs) (f ∷ changed c (λ f. g) fs)
     go true o ih e = let z : i ≡ 0 = cc in rw z
     go false (Some j) ih e = let z : i ≡ suc j = cc in rw z (ap (λ xs. f ∷ xs) (ih j refl))
-    go false None ih e = let z : ◌≡◌ {A = ℕ} 0 1 = cc in absurd (omega arith)
+    go false None ih e = cc
 
 -- code 0 is not sought
 some_parts : (b : Bool) (o : Option ℕ) (i : ℕ) → cond b None o ≡ Some i → (b ≡ false) × (o ≡ Some i)
-some_parts true o i e = let z : ◌≡◌ {A = ℕ} 0 1 = cc in absurd (omega arith)
+some_parts true o i e = cc
 some_parts false o i e = (refl, e)
 
 none_parts : {A : Type 0} (b : Bool) (o : Option ℕ) (p : Option A) → is_some o ≡ is_some p → cond b None o ≡ None → cond b None p ≡ None

@@ -22,10 +22,10 @@ module _ (s : State Meaning) (q : List ℕ) (f : Folder Meaning) where
   revises : (o : Reply Expression) (x y z : Bool) (a b : ℕ) → given b ≡ and_then o (λ e. refuse_if (not x) 12 (refuse_if y 13 (refuse_if z 14 (given a)))) →
       (b ≡ a) × (◌≡◌ {A = Reply (Unit {0})} (and_then o (λ e. refuse_if (not x) 12 (refuse_if y 13 (given tt)))) (given tt))
   revises (given e) true false false a b h = (cc, refl)
-  revises (given e) true false true a b h = let k : ◌≡◌ {A = ℕ} 0 1 = cc in absurd (omega arith)
-  revises (given e) true true z a b h = let k : ◌≡◌ {A = ℕ} 0 1 = cc in absurd (omega arith)
-  revises (given e) false y z a b h = let k : ◌≡◌ {A = ℕ} 0 1 = cc in absurd (omega arith)
-  revises (declined n p) x y z a b h = let k : ◌≡◌ {A = ℕ} 0 1 = cc in absurd (omega arith)
+  revises (given e) true false true a b h = cc
+  revises (given e) true true z a b h = cc
+  revises (given e) false y z a b h = cc
+  revises (declined n p) x y z a b h = cc
 
   pub ready : (a : ℕ) (r : Reply ℕ) → r ≡ and_then (reading q) (λ e. judging f q a) → a ≤ greatest → Room s.cabinet s.audit q → Ready s.cabinet s.audit q f r
   ready a (declined n p) e l room = λ h. room

@@ -11,7 +11,7 @@ use Rattle.history.specs.Judging.{some_below}
 
 -- a reply with a value comes from the next check
 pub next : {A : Type 0} (b : Bool) (n : ℕ) (r : Reply A) (y : A) → given y ≡ refuse_if b n r → given y ≡ r
-next true n r y e = absurd (let z : ◌≡◌ {A = ℕ} 0 1 = cc in omega arith)
+next true n r y e = cc
 next false n r y e = e
 
 -- bytes are declined as no question, or for a bound
@@ -19,7 +19,7 @@ pub unread : (q : List ℕ) (k : ℕ) (p : Option ℕ) → declined k p ≡ read
 unread q k p e = by (reading q) e (told q)
   where
     by : (r : Reply Expression) → declined k p ≡ r → Told q r → (k ≡ 9) ⊎ (k ≡ 10)
-    by r e (asked t l w b) = absurd (let z : ◌≡◌ {A = ℕ} 0 1 = cc in omega arith)
+    by r e (asked t l w b) = cc
     by r e (long l) = inl cc
     by r e (wrong i l w) = inl cc
     by r e (over t i l w b) = inr cc
@@ -30,9 +30,9 @@ read_size q t e = by (reading q) e (told q)
   where
     by : (r : Reply Expression) → r ≡ given t → Told q r → (nat_le 1 (length q) && nat_le (length q) longest) ≡ true
     by r e (asked u l w b) = let n = some u in let m : length q ≡ length (written u) = ap length w in and_from (nat_le 1 (length q)) (nat_le (length q) longest) (le-leb 1 (length q) (omega arith)) (le-leb (length q) longest l)
-    by r e (long l) = absurd (let z : ◌≡◌ {A = ℕ} 0 1 = cc in omega arith)
-    by r e (wrong i l w) = absurd (let z : ◌≡◌ {A = ℕ} 0 1 = cc in omega arith)
-    by r e (over u i l w b) = absurd (let z : ◌≡◌ {A = ℕ} 0 1 = cc in omega arith)
+    by r e (long l) = cc
+    by r e (wrong i l w) = cc
+    by r e (over u i l w b) = cc
 
 -- the checks of a question, by what each says; b, c and t are those of 11, 12 and 14
 abbrev pub checked : Reply Expression → Bool → Bool → Bool → ℕ → Reply ℕ
@@ -55,10 +55,10 @@ pub record Answered (o : Reply Expression) (b t : Bool) (v a : ℕ) : Type 0 whe
   pub own : a ≡ v
 
 pub answered : (o : Reply Expression) (b c t : Bool) (v a : ℕ) → given a ≡ checked o b c t v → Answered o b t v a
-answered (declined k p) b c t v a e = absurd (let z : ◌≡◌ {A = ℕ} 0 1 = cc in omega arith)
-answered (given x) true c t v a e = absurd (let z : ◌≡◌ {A = ℕ} 0 1 = cc in omega arith)
-answered (given x) false true t v a e = absurd (let z : ◌≡◌ {A = ℕ} 0 1 = cc in omega arith)
-answered (given x) false false true v a e = absurd (let z : ◌≡◌ {A = ℕ} 0 1 = cc in omega arith)
+answered (declined k p) b c t v a e = cc
+answered (given x) true c t v a e = cc
+answered (given x) false true t v a e = cc
+answered (given x) false false true v a e = cc
 answered (given x) false false false v a e = record { expression = x; reads = refl; room = refl; silent = refl; own = cc }
 
 -- which check refused a question: that of its code, of its bytes, of 11, or one after them, which leaves an entry
@@ -73,7 +73,7 @@ refused (declined i j) b c t v k p u e = no_question (u (cc))
 refused (given x) true c t v k p u e = no_room cc
 refused (given x) false true t v k p u e = later x refl refl (inl cc)
 refused (given x) false false true v k p u e = later x refl refl (inr cc)
-refused (given x) false false false v k p u e = absurd (let z : ◌≡◌ {A = ℕ} 0 1 = cc in omega arith)
+refused (given x) false false false v k p u e = cc
 
 -- a test of some number below n
 pub some_below_reached : (n : ℕ) (p : ℕ → Bool) → some_below n p ≡ true → (k : ℕ) × (p k ≡ true)
@@ -104,11 +104,11 @@ pub record Cleared (b c d e f g : Bool) : Type 0 where
   pub low : g ≡ false
 
 pub cleared : (a b c d e f g : Bool) (v k : ℕ) → given k ≡ enrolling a b c d e f g v → Cleared b c d e f g
-cleared true b c d e f g v k i = absurd (let z : ◌≡◌ {A = ℕ} 0 1 = cc in omega arith)
-cleared false true c d e f g v k i = absurd (let z : ◌≡◌ {A = ℕ} 0 1 = cc in omega arith)
-cleared false false true d e f g v k i = absurd (let z : ◌≡◌ {A = ℕ} 0 1 = cc in omega arith)
-cleared false false false true e f g v k i = absurd (let z : ◌≡◌ {A = ℕ} 0 1 = cc in omega arith)
-cleared false false false false true f g v k i = absurd (let z : ◌≡◌ {A = ℕ} 0 1 = cc in omega arith)
-cleared false false false false false true g v k i = absurd (let z : ◌≡◌ {A = ℕ} 0 1 = cc in omega arith)
-cleared false false false false false false true v k i = absurd (let z : ◌≡◌ {A = ℕ} 0 1 = cc in omega arith)
+cleared true b c d e f g v k i = cc
+cleared false true c d e f g v k i = cc
+cleared false false true d e f g v k i = cc
+cleared false false false true e f g v k i = cc
+cleared false false false false true f g v k i = cc
+cleared false false false false false true g v k i = cc
+cleared false false false false false false true v k i = cc
 cleared false false false false false false false v k i = record { code = refl; place = refl; fit = refl; room = refl; whole = refl; low = refl }

@@ -41,7 +41,7 @@ fits : (w : Setting) (past : Past) (l : Line) → short w past l ≡ false → l
 fits w past l e = ltb-false (w.room - length (written past)) (length (encode l)) e
 
 answer_fits : (w : Setting) (x : List ℕ) (past : Past) (c : ℕ) (q : List ℕ) (a : ℕ) (o : Option Restorer) → given a ≡ asked w x past c q o → Fitting w past (line c a q)
-answer_fits w x past c q a None e = absurd (let z : ◌≡◌ {A = ℕ} 0 1 = cc in omega arith)
+answer_fits w x past c q a None e = cc
 answer_fits w x past c q a (Some r) e =
     let g = answering w x past c q r a e in
     let s : answers q x ≤ greatest = answers_small q x in
@@ -128,7 +128,7 @@ fits_room w x (e ∷ past) fol = by (lines e) (one_line e) (lines_fit w x past e
         length (written (e ∷ past)) ≡ length (written past) + length (encodes ls) → length (written (e ∷ past)) ≤ w.room
     by [] o f l i = omega arith
     by (m ∷ []) o f l i = let r = f.0.room in let n : length (encode m ++ []) ≡ length (encode m) = ap length (append-nil (encode m)) in omega arith
-    by (m ∷ n ∷ ls) (inl j) f l i = absurd (let z : ◌≡◌ {A = ℕ} 0 1 = cc in omega arith)
+    by (m ∷ n ∷ ls) (inl j) f l i = cc
     by (m ∷ n ∷ ls) (inr j) f l i = absurd (let k = j.1 in let z : ◌≡◌ {A = ℕ} 0 1 = cc in omega arith)
 
 -- no code that was enrolled is 0

@@ -30,7 +30,7 @@ happened w x e (f ∷ past) fol (here i) = (past, subst (Stated w x past) (sym i
 happened w x e (f ∷ past) fol (before m) = happened w x e past fol.0 m
 
 own_answer : (w : Setting) (x : List ℕ) (past : Past) (c : ℕ) (q : List ℕ) (a : ℕ) (o : Option Restorer) → given a ≡ asked w x past c q o → a ≡ answers q x
-own_answer w x past c q a None e = absurd (let z : ◌≡◌ {A = ℕ} 0 1 = cc in omega arith)
+own_answer w x past c q a None e = cc
 own_answer w x past c q a (Some r) e = (answering w x past c q r a e).own
 
 never_met : (o : Reply Expression) (b : Bool) (k : ℕ) → Refused o b k → (k ≡ 8 → ⊥) × (k ≡ 13 → ⊥)
@@ -51,7 +51,7 @@ zero_none w x (asks b q (given a) ∷ past) fol = none (eqb b 0) (known past 0) 
   where
     none : (t : Bool) (o : Option Restorer) → o ≡ None → cond t (option_map (hears q a) o) o ≡ None
     none true None e = refl
-    none true (Some r) e = absurd (let z : ◌≡◌ {A = ℕ} 0 1 = cc in omega arith)
+    none true (Some r) e = cc
     none false o e = e
 zero_none w x (asks b q (declined k p) ∷ past) fol = zero_none w x past fol.0
 zero_none w x (looks b r ∷ past) fol = zero_none w x past fol.0
@@ -78,7 +78,7 @@ last w x h c r q fol e p =
     ∙ ap (λ b. refuse_if (not b) 12 (refuse_if (telling (held r) q r.n r.d) 14 (given (answers q x)))) p.carried
   where
     code : (t : Bool) → eqb c 0 ≡ t → t ≡ false
-    code true i = let n = zero_none w x h fol in let j : known h c ≡ known h 0 = ap (known h) (eqb-true c 0 i) in absurd (let z : ◌≡◌ {A = ℕ} 0 1 = cc in omega arith)
+    code true i = let n = zero_none w x h fol in let j : known h c ≡ known h 0 = ap (known h) (eqb-true c 0 i) in cc
     code false i = refl
 
 exactly : (w : Setting) (x : List ℕ) (h : Past) → Within w.tops x → Follows w x h →
@@ -92,7 +92,7 @@ exactly w x h i fol c r q e p =
   where
     only : (b : Bool) → refuse_if b 14 (given (answers q x)) ≡ declined 14 None → b ≡ true
     only true j = refl
-    only false j = absurd (let z : ◌≡◌ {A = ℕ} 0 1 = cc in omega arith)
+    only false j = cc
 
 -- ---- two cabinets
 

@@ -133,7 +133,7 @@ module _ (w : Setting) (x : List ℕ) (sealed : Within w.tops x) where
   Of o = (r : Restorer) → o ≡ Some r → Fair w x r
 
   of_none : Of None
-  of_none r e = absurd (let z : ◌≡◌ {A = ℕ} 0 1 = cc in omega arith)
+  of_none r e = cc
 
   of_some : (s : Restorer) → Fair w x s → Of (Some s)
   of_some s f r e = let i : s ≡ r = cc in subst (Fair w x) i f
