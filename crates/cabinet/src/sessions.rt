@@ -67,6 +67,7 @@ impl Cabinet {
         ensures others { drop (length calls.now) returns.new ≡ drop (length calls.now) returns.old }
         ensures lent { register.new.entries.ghost_name ≡ register.old.entries.ghost_name }
     {
+        // by index: of what is written through a zip with `iter_mut` a proof knows nothing afterwards
         for i in 0..calls.len().min(returns.len()) {
             returns[i] = self.call(register, audit, &calls[i]);
         }

@@ -42,7 +42,7 @@ returns g c =
     let begun = understood m (state c.args.self.now c.args.register.now.entries.now c.args.audit.now) in
     record {
       stands = λ w x before past st. subst (λ (p : Past). Stands w x before p t) (events_cut m k i cs rs past h) (c.loop-i.invariant.0 w x before past st);
-      memory = c.loop-i.invariant.1 ∙ ap (left begun) (events_cut m k i cs rs [] h);
+      memory = subst (λ (p : Past). t ≡ left begun p) (events_cut m k i cs rs [] h) c.loop-i.invariant.1;
       others = rest_all m k (length cs) i c.args.returns.now rs l n c.loop-i.invariant.2;
       lent = c.loop-i.invariant.3;
     }
