@@ -1,10 +1,13 @@
 // Why a call is declined. Every call of the product that declines returns one of these fourteen refusals; where several
-// apply, the first in their order. This crate promises the number of each refusal and the place that 9 and 10 bring with
-// them, by the definitions in specs/Replies.antt, through which every contract speaks of refusals. It rests on nothing.
+// apply, the first in their order. This crate promises the number of each refusal, the place that 9 and 10 bring with
+// them, and what is printed of each, by the definitions in specs/, through which every contract speaks of refusals. It rests
+// on nothing.
 #![tactic(auto)]
 
 ghost use Rattle.std.specs.Prelude.{◌≡◌};
 ghost use Rattle.refusal.specs.Replies.{number_of, place_of};
+
+use std::fmt;
 
 mod list;
 
@@ -40,6 +43,22 @@ impl Refusal {
         match self {
             Refusal::Unreadable(at) | Refusal::Bound(at) => Some(at),
             _ => None,
+        }
+    }
+}
+
+// `refused 7`, or `refused 9 at 3` where a place comes with it.
+impl fmt::Display for Refusal {
+    ghost use Rattle.std.specs.Prelude.{Some};
+    ghost use Rattle.refusal.specs.Printed.{refusal_text};
+
+    ghost output = { λ r. Some (refusal_text r) };
+
+    fn fmt<W: fmt::Write>(&self, f: &mut fmt::Formatter<W>) -> fmt::Result {
+        let number = self.number();
+        match self.place() {
+            Some(at) => write!(f, "refused {number} at {at}"),
+            None => write!(f, "refused {number}"),
         }
     }
 }
