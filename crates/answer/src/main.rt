@@ -11,8 +11,8 @@ ghost use Rattle.question.specs.Questions.{answers};
 
 use question::Question;
 use refusal::Refusal;
-use script::{Declined, Lines, Words, decimal, hex, passed_over};
-use std::alloc::{AllocError, Global};
+use script::{LineError, Lines, Words, passed_over};
+use std::alloc::Global;
 use std::io;
 
 fn main(rt: HostRuntime) -> anyhow::Result<()> {
@@ -21,19 +21,22 @@ fn main(rt: HostRuntime) -> anyhow::Result<()> {
 
 fn run(rt: &HostRuntime) -> anyhow::Result<()> {
     let text = script::input(rt)?;
-    let mut lines = Lines {
-        rest: text.as_slice(),
-    };
-    let mut number: usize = 0;
-    while let Some(line) = lines.next() {
-        number = number.saturating_add(1);
-        if !passed_over(line) {
-            match understood(rt.alloc(), line)? {
-                Some(trial) => show(rt, answer(trial.bytes.as_slice(), trial.sheet))?,
-                None => println!(rt; "line {number}: not understood")?,
-            }
+    let lines = Lines { rest: &text };
+    for (number, line) in (1..).zip(lines) {
+        if passed_over(line) {
+            continue;
+        }
+        if let Err(error) = try_line(rt, line) {
+            error.report(rt, number)?;
         }
     }
+    Ok(())
+}
+
+// Prints the answer that a line of the script asks for.
+fn try_line(rt: &HostRuntime, line: &[u8]) -> Result<(), LineError> {
+    let trial = Trial::read(rt.alloc(), line)?;
+    show(rt, answer(&trial.bytes, trial.sheet))?;
     Ok(())
 }
 
@@ -44,33 +47,15 @@ struct Trial {
     bytes: Vec<u8>,
 }
 
-// The trial that a line asks for.
-fn understood(heap: Global, line: &[u8]) -> Result<Option<Trial>, AllocError> {
-    let mut words = Words { rest: line };
-    let Some(sheet) = sheet(&mut words) else {
-        return Ok(None);
-    };
-    let Some(word) = words.next() else {
-        return Ok(None);
-    };
-    if words.next().is_some() {
-        return Ok(None);
+impl Trial {
+    // S0 S1 S2 S3 HEX
+    fn read(heap: Global, line: &[u8]) -> Result<Trial, LineError> {
+        let mut words = Words { rest: line };
+        let sheet = words.four_bytes()?;
+        let bytes = words.bytes(heap)?;
+        words.end()?;
+        Ok(Trial { sheet, bytes })
     }
-    match hex(heap, word)? {
-        Some(bytes) => Ok(Some(Trial { sheet, bytes })),
-        None => Ok(None),
-    }
-}
-
-// The sheet that the next four words write.
-fn sheet(words: &mut Words<'_>) -> Option<[u8; 4]> {
-    Some([value(words)?, value(words)?, value(words)?, value(words)?])
-}
-
-// The value that the next word writes.
-fn value(words: &mut Words<'_>) -> Option<u8> {
-    let n = decimal(words.next()?, 255)?;
-    u8::try_from(n).ok()
 }
 
 // The answer of the question that the bytes are.
@@ -84,9 +69,6 @@ fn answer(bytes: &[u8], sheet: [u8; 4]) -> Result<u8, Refusal>
 fn show(rt: &HostRuntime, answer: Result<u8, Refusal>) -> io::Result<()> {
     match answer {
         Ok(answer) => println!(rt; "answer {answer}"),
-        Err(refusal) => {
-            let why = Declined(refusal);
-            println!(rt; "{why}")
-        }
+        Err(refusal) => println!(rt; "{refusal}"),
     }
 }

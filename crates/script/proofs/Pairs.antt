@@ -1,5 +1,6 @@
 -- Pairs of hexadecimal digits, from the left to the right and back.
-use Rattle.std.proofs.Common.{◌≡◌, ℕ, suc, ◌+◌, ◌*◌, ◌/◌, ◌%◌, ◌<◌, ◌≤◌, Bool, true, false, ltb, List, [], ◌∷◌, ◌++◌, length, get_or, drop, Some, None, Option, sym, refl, ap, ◌∙◌, append_assoc, append-nil, arith, length-drop, drop-cons}
+use Rattle.std.proofs.Common.{◌≡◌, ℕ, suc, ◌+◌, ◌-◌, ◌*◌, ◌/◌, ◌%◌, ◌<◌, ◌≤◌, Bool, true, false, ltb, List, [], ◌∷◌, ◌++◌, length, get_or, take, drop, Some, None, Option, sym, refl, ap, ◌∙◌, append_assoc, append-nil, arith}
+use Rattle.std.proofs.lemmas.List.{take_rest}
 use Rattle.std.proofs.lemmas.Bool.Decides.{nat_tests}
 use Rattle.script.specs.Text.{nibble, joined, pairs, digit_of, hex_text, HexReadsBack}
 
@@ -8,65 +9,48 @@ abbrev pub onto : List ℕ → Option (List ℕ) → Option (List ℕ)
 onto xs (Some ys) = Some (xs ++ ys)
 onto xs None = None
 
-two_off : (w : List ℕ) (k : ℕ) → k + 1 < length w → drop k w ≡ get_or w k 0 ∷ get_or w (k + 1) 0 ∷ drop (k + 2) w
-two_off w k h =
-    let l : k < length w = omega arith in
-    let m : suc k < length w = omega arith in
-    let e : suc k ≡ k + 1 = omega arith in
-    let f : suc (suc k) ≡ k + 2 = omega arith in
-    drop-cons w k 0 l ∙ ap (λ (r : List ℕ). get_or w k 0 ∷ r) (drop-cons w (suc k) 0 m ∙ (ap (λ n. get_or w n 0 ∷ drop (suc (suc k)) w) e ∙ ap (λ n. get_or w (k + 1) 0 ∷ drop n w) f))
+onto_some : (xs : List ℕ) (h l : ℕ) (p : Option (List ℕ)) → onto xs (joined (Some h) (Some l) p) ≡ onto (xs ++ ((h * 16 + l) ∷ [])) p
+onto_some xs h l (Some ys) = ap Some (sym (append_assoc xs ((h * 16 + l) ∷ []) ys))
+onto_some xs h l None = refl
 
 onto_none : (xs : List ℕ) (o : Option ℕ) (p : Option (List ℕ)) → onto xs (joined o None p) ≡ None
 onto_none xs (Some h) p = refl
 onto_none xs None p = refl
 
-onto_some : (xs : List ℕ) (h l : ℕ) (p : Option (List ℕ)) → onto xs (joined (Some h) (Some l) p) ≡ onto (xs ++ ((h * 16 + l) ∷ [])) p
-onto_some xs h l (Some ys) = ap Some (sym (append_assoc xs ((h * 16 + l) ∷ []) ys))
-onto_some xs h l None = refl
-
-module _ (w : List ℕ) (i : ℕ) (h : i < length w / 2) where
-  pub front : pairs (drop (2 * i) w) ≡ joined (nibble (get_or w (2 * i) 0)) (nibble (get_or w (2 * i + 1) 0)) (pairs (drop (2 * (i + 1)) w))
+module _ (xs w : List ℕ) (l : 2 ≤ length w) where
+  front : pairs w ≡ joined (nibble (get_or w 0 0)) (nibble (get_or w 1 0)) (pairs (take (length w - 2) (drop 2 w)))
   unfolding pairs
-  front =
-      let m : 2 * i + 1 < length w = omega arith in
-      let e : 2 * i + 2 ≡ 2 * (i + 1) = omega arith in
-      ap pairs (two_off w (2 * i) m) ∙ ap (λ n. joined (nibble (get_or w (2 * i) 0)) (nibble (get_or w (2 * i + 1) 0)) (pairs (drop n w))) e
+  front = by w l ∙ ap (λ (r : List ℕ). joined (nibble (get_or w 0 0)) (nibble (get_or w 1 0)) (pairs r)) (sym (take_rest w 2))
+    where
+      by : (w : List ℕ) → 2 ≤ length w → pairs w ≡ joined (nibble (get_or w 0 0)) (nibble (get_or w 1 0)) (pairs (drop 2 w))
+      by [] l = absurd (omega arith)
+      by (x ∷ []) l = absurd (omega arith)
+      by (x ∷ y ∷ xs) l = refl
 
-  pub no_high : (xs : List ℕ) → None ≡ nibble (get_or w (2 * i) 0) → onto xs (pairs (drop (2 * i) w)) ≡ None
-  no_high xs e = ap (onto xs) (front ∙ ap (λ (o : Option ℕ). joined o (nibble (get_or w (2 * i + 1) 0)) (pairs (drop (2 * (i + 1)) w))) (sym e))
+  pub no_high : nibble (get_or w 0 0) ≡ None → onto xs (pairs w) ≡ None
+  no_high e = ap (onto xs) (front ∙ ap (λ (o : Option ℕ). joined o (nibble (get_or w 1 0)) (pairs (take (length w - 2) (drop 2 w)))) e)
 
-  pub no_low : (xs : List ℕ) → None ≡ nibble (get_or w (2 * i + 1) 0) → onto xs (pairs (drop (2 * i) w)) ≡ None
-  no_low xs e =
-      ap (onto xs) (front ∙ ap (λ (o : Option ℕ). joined (nibble (get_or w (2 * i) 0)) o (pairs (drop (2 * (i + 1)) w))) (sym e)) ∙ onto_none xs (nibble (get_or w (2 * i) 0)) (pairs (drop (2 * (i + 1)) w))
+  pub no_low : nibble (get_or w 1 0) ≡ None → onto xs (pairs w) ≡ None
+  no_low e =
+      ap (onto xs) (front ∙ ap (λ (o : Option ℕ). joined (nibble (get_or w 0 0)) o (pairs (take (length w - 2) (drop 2 w)))) e) ∙ onto_none xs (nibble (get_or w 0 0)) (pairs (take (length w - 2) (drop 2 w)))
 
-  pub one_more : (xs : List ℕ) (a b : ℕ) → Some a ≡ nibble (get_or w (2 * i) 0) → Some b ≡ nibble (get_or w (2 * i + 1) 0) →
-      onto xs (pairs (drop (2 * i) w)) ≡ onto (xs ++ ((a * 16 + b) ∷ [])) (pairs (drop (2 * (i + 1)) w))
-  one_more xs a b e f =
-      let R = pairs (drop (2 * (i + 1)) w) in
-      ap (onto xs) (front ∙ (ap (λ (o : Option ℕ). joined o (nibble (get_or w (2 * i + 1) 0)) R) (sym e) ∙ ap (λ (o : Option ℕ). joined (Some a) o R) (sym f))) ∙ onto_some xs a b R
+  pub one_more : (t : Option (List ℕ)) (a b : ℕ) → onto xs (pairs w) ≡ t → nibble (get_or w 0 0) ≡ Some a → nibble (get_or w 1 0) ≡ Some b →
+      onto (xs ++ ((a * 16 + b) ∷ [])) (pairs (take (length w - 2) (drop 2 w))) ≡ t
+  one_more t a b h e f =
+      let R = pairs (take (length w - 2) (drop 2 w)) in
+      sym (ap (onto xs) (front ∙ (ap (λ (o : Option ℕ). joined o (nibble (get_or w 1 0)) R) e ∙ ap (λ (o : Option ℕ). joined (Some a) o R) f)) ∙ onto_some xs a b R) ∙ h
 
--- digits in odd number are none
-odd_by : (w : List ℕ) → length w % 2 ≡ 1 → pairs w ≡ None
+-- no digit is left, or one
+pub end : (xs w : List ℕ) → length w ≡ 0 → onto xs (pairs w) ≡ Some xs
 unfolding pairs
-odd_by [] e = absurd (omega arith)
-odd_by (x ∷ []) e = refl
-odd_by (x ∷ y ∷ xs) e = let k : length xs % 2 ≡ 1 = omega arith in none (nibble x) (nibble y) (odd_by xs k)
-  where
-    none : (a b : Option ℕ) → pairs xs ≡ None → joined a b (pairs xs) ≡ None
-    none (Some a) (Some b) e = ap (joined (Some a) (Some b)) e
-    none (Some a) None e = refl
-    none None b e = refl
+end xs [] l = ap Some (append-nil xs)
+end xs (x ∷ w) l = absurd (omega arith)
 
-pub odd : (w : List ℕ) → (length w % 2 ≡ 0 → ⊥) → pairs w ≡ None
-odd w h = odd_by w (omega (arith, h))
-
-pub end : (xs w : List ℕ) (k : ℕ) → length w ≤ k → onto xs (pairs (drop k w)) ≡ Some xs
+pub odd : (xs w : List ℕ) → length w ≡ 1 → onto xs (pairs w) ≡ None
 unfolding pairs
-end xs w k h = ap (λ (r : List ℕ). onto xs (pairs r)) (nothing (drop k w) (omega (arith, length-drop k w))) ∙ ap Some (append-nil xs)
-  where
-    nothing : (r : List ℕ) → length r ≡ 0 → r ≡ []
-    nothing [] e = refl
-    nothing (x ∷ r) e = absurd (omega arith)
+odd xs [] l = absurd (omega arith)
+odd xs (x ∷ []) l = refl
+odd xs (x ∷ y ∷ w) l = absurd (omega arith)
 
 -- ---- printed and read again
 

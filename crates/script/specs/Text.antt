@@ -1,5 +1,5 @@
 -- What lines, words, numbers and bytes are in the programs' text. Assumes nothing.
-use Rattle.std.specs.Prelude.{◌≡◌, ℕ, ◌+◌, ◌-◌, ◌*◌, ◌/◌, ◌%◌, ◌<◌, Bool, cond, not, ◌&&◌, ◌||◌, List, [], ◌∷◌, length, take, drop, Some, None, Option, ◌==◌, nat_eq, nat_le, nat_lt, slice_index}
+use Rattle.std.specs.Prelude.{◌≡◌, ℕ, zero, suc, ◌+◌, ◌-◌, ◌*◌, ◌/◌, ◌%◌, ◌<◌, Bool, cond, not, ◌&&◌, ◌||◌, List, [], ◌∷◌, length, take, drop, Some, None, Option, is_some, option_map, option_and_then, ◌==◌, nat_eq, nat_le, nat_lt, slice_index}
 use Rattle.std.specs.List.{prefix_len}
 
 -- ---- lines and words
@@ -47,6 +47,26 @@ decimal_from most n (b ∷ bs) = cond (is_digit b && nat_le (n * 10 + (b - 48)) 
 -- a decimal number has a digit at least
 abbrev pub number : ℕ → List ℕ → Option ℕ
 number most bs = cond (length bs == 0) None (decimal_from most 0 bs)
+
+-- ---- the words of a line, one after another
+
+-- the next word as a number; nothing where no word is left, or it is no number
+abbrev pub next_number : List ℕ → Option ℕ
+next_number bs = option_and_then (number 4294967295) (word bs)
+
+-- the next word as a byte
+abbrev pub next_byte : List ℕ → Option ℕ
+next_byte bs = option_and_then (λ n. cond (nat_lt n 256) (Some n) None) (next_number bs)
+
+-- the next k words as bytes
+abbrev pub next_bytes : ℕ → List ℕ → Option (List ℕ)
+next_bytes zero bs = Some []
+next_bytes (suc k) bs = option_and_then (λ b. option_map (λ rest. b ∷ rest) (next_bytes k (after_word bs))) (next_byte bs)
+
+-- what follows them, or follows the first word that is no byte
+abbrev pub after_bytes : ℕ → List ℕ → List ℕ
+after_bytes zero bs = bs
+after_bytes (suc k) bs = cond (is_some (next_byte bs)) (after_bytes k (after_word bs)) (after_word bs)
 
 -- ---- bytes
 

@@ -1,70 +1,58 @@
-ghost use Rattle.std.specs.Prelude.{◌≡◌, ◌*◌, IfOk, Some, None, MatchOption};
-ghost use Rattle.script.specs.Text.{nibble, pairs, is_hyphen, is_sized, bytes_of, HexReadsBack};
+ghost use Rattle.std.specs.Prelude.{◌≡◌, ok_or};
+ghost use Rattle.script.specs.Text.{nibble, pairs, is_sized, bytes_of, HexReadsBack};
+ghost use Rattle.script.specs.Read.{IsReadByOrFails};
 
-use std::alloc::{AllocError, Global};
+use crate::LineError;
+use std::alloc::Global;
 
 // The most bytes that a word may write.
 pub const MOST_BYTES: usize = 200;
 
 // The bytes that a word writes in hexadecimal, two digits of either case for each; a hyphen stands for none.
 #[tactic(auto, using(crate::proofs::Pairs::reads_back))]
-pub fn hex(heap: Global, word: &[u8]) -> Result<Option<Vec<u8>>, AllocError>
-    ensures bytes { IfOk result (λ o. MatchOption o (bytes_of word.now ≡ None) (λ v. bytes_of word.now ≡ Some v.items)) }
+pub fn hex(heap: Global, word: &[u8]) -> Result<Vec<u8>, LineError>
+    ensures bytes { IsReadByOrFails (λ v. v.items) result (bytes_of word.now) }
     ensures back { HexReadsBack }
 {
-    if is_hyphen(word) {
-        return Ok(Some(Vec::new(heap)));
-    }
-    if !is_sized(word) {
-        return Ok(None);
-    }
-    hex_digits(heap, word)
-}
-
-fn is_hyphen(word: &[u8]) -> bool
-    ensures { result ≡ is_hyphen word.now }
-{
     match word {
-        [b] => *b == b'-',
-        _ => false,
+        [b'-'] => Ok(Vec::new(heap)),
+        _ if is_sized(word) => hex_digits(heap, word),
+        _ => Err(LineError::NotUnderstood),
     }
 }
 
 fn is_sized(word: &[u8]) -> bool
     ensures { result ≡ is_sized word.now }
 {
-    (0 < word.len()) & (word.len() <= 2 * MOST_BYTES)
+    (1..=2 * MOST_BYTES).contains(&word.len())
 }
 
 // The bytes that pairs of hexadecimal digits write, of any number.
-#[tactic(auto, using(crate::proofs::Pairs::odd, crate::proofs::Pairs::no_high, crate::proofs::Pairs::no_low, crate::proofs::Pairs::one_more, crate::proofs::Pairs::end))]
-pub fn hex_digits(heap: Global, word: &[u8]) -> Result<Option<Vec<u8>>, AllocError>
-    ensures { IfOk result (λ o. MatchOption o (pairs word.now ≡ None) (λ v. pairs word.now ≡ Some v.items)) }
+#[tactic(auto, using(crate::proofs::Pairs::no_high, crate::proofs::Pairs::no_low, crate::proofs::Pairs::one_more, crate::proofs::Pairs::end, crate::proofs::Pairs::odd))]
+pub fn hex_digits(heap: Global, word: &[u8]) -> Result<Vec<u8>, LineError>
+    ensures { IsReadByOrFails (λ v. v.items) result (pairs word.now) }
 {
     let mut bytes = Vec::new(heap);
-    if word.len() % 2 != 0 {
-        return Ok(None);
+    let mut rest = word;
+    while let [high, low, others @ ..] = rest {
+        bytes.push(digit(*high)? * 16 + digit(*low)?)?;
+        rest = others;
     }
-    for i in 0..word.len() / 2 {
-        let Some(high) = digit(word[2 * i]) else {
-            return Ok(None);
-        };
-        let Some(low) = digit(word[2 * i + 1]) else {
-            return Ok(None);
-        };
-        bytes.push(high * 16 + low)?;
+    if rest.is_empty() {
+        Ok(bytes)
+    } else {
+        Err(LineError::NotUnderstood)
     }
-    Ok(Some(bytes))
 }
 
 // The value of a hexadecimal digit.
-fn digit(b: u8) -> Option<u8>
-    ensures { result ≡ nibble b }
+fn digit(b: u8) -> Result<u8, LineError>
+    ensures { result ≡ ok_or (nibble b) LineError.NotUnderstood }
 {
     match b {
-        b'0'..=b'9' => Some(b - b'0'),
-        b'A'..=b'F' => Some(b - b'A' + 10),
-        b'a'..=b'f' => Some(b - b'a' + 10),
-        _ => None,
+        b'0'..=b'9' => Ok(b - b'0'),
+        b'A'..=b'F' => Ok(b - b'A' + 10),
+        b'a'..=b'f' => Ok(b - b'a' + 10),
+        _ => Err(LineError::NotUnderstood),
     }
 }

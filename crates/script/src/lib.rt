@@ -4,11 +4,13 @@
 #![tactic(auto)]
 
 mod bytes;
+mod error;
 mod print;
 mod source;
 mod words;
 
 pub use bytes::{hex, hex_digits};
-pub use print::{Declined, Hex};
+pub use error::LineError;
+pub use print::Hex;
 pub use source::input;
 pub use words::{Lines, Words, decimal, passed_over};

@@ -1,31 +1,24 @@
-ghost use Rattle.std.specs.Prelude.{◌≡◌, ◌+◌, ◌-◌, ◌*◌, ◌<◌, ◌≤◌, true, ◌&&◌, [], ◌∷◌, length, is_some, if◌then◌else◌, Some, None, nat_le};
-ghost use Rattle.script.specs.Text.{before, run, line, after_line, passed_over, word, after_word, is_digit, number, decimal_from};
-ghost use Rattle.script.specs.Views.{shown};
+ghost use Rattle.std.specs.Prelude.{◌≡◌, ◌+◌, ◌-◌, ◌*◌, ◌<◌, ◌≤◌, ◌↔◌, ◌&&◌, length, IsOk, IsOkUnless, OnOk, ok_or, option_and_then, if◌then◌else◌, Some, None, nat_le};
+ghost use Rattle.script.specs.Text.{before, run, passed_over, word, after_word, next_number, next_byte, next_bytes, after_bytes, is_digit, number, decimal_from, bytes_of};
+ghost use Rattle.script.specs.Read.{IsReadBy, IsReadByOrFails, IsReadInto};
+
+use crate::{LineError, hex};
+use std::alloc::Global;
 
 // How many bytes stand before the first that is b.
 fn count_before(text: &[u8], b: u8) -> usize
     ensures is { result ≡ before b text.now }
     ensures within { result ≤ length text.now }
 {
-    for (i, x) in text.iter().enumerate() {
-        if *x == b {
-            return i;
-        }
-    }
-    text.len()
+    text.iter().take_while(|x| **x != b).count()
 }
 
-// How many bytes from the first on are b.
-fn count_run(text: &[u8], b: u8) -> usize
-    ensures is { result ≡ run b text.now }
+// How many spaces a text begins with.
+fn count_spaces(text: &[u8]) -> usize
+    ensures is { result ≡ run 32 text.now }
     ensures within { result ≤ length text.now }
 {
-    for (i, x) in text.iter().enumerate() {
-        if *x != b {
-            return i;
-        }
-    }
-    text.len()
+    text.iter().take_while(|x| **x == b' ').count()
 }
 
 // The lines of a text.
@@ -34,21 +27,27 @@ pub struct Lines<'a> {
     pub rest: &'a [u8],
 }
 
-impl<'a> Lines<'a> {
+impl<'a> Iterator for Lines<'a> {
+    ghost use Rattle.std.specs.Prelude.{length};
+    ghost use Rattle.std.specs.Iterator.{at_most};
+    ghost use Rattle.script.specs.Views.{TakesLine};
+
+    type Item = &'a [u8];
+
+    ghost next_gives = { λ s r t. TakesLine s.rest.now r t.rest.now };
+
+    ghost remaining = { λ s. at_most (length s.rest.now) };
+
     // The next line, without its newline, or nothing at the end.
-    pub fn next(&mut self) -> Option<&'a [u8]>
-        ensures line { shown result ≡ line self.old.rest.now }
-        ensures rest { self.new.rest.now ≡ after_line self.old.rest.now }
-        ensures shorter { is_some result ≡ true → length self.new.rest.now < length self.old.rest.now }
-    {
+    fn next(&mut self) -> Option<&'a [u8]> {
         let text = self.rest;
+        if text.is_empty() {
+            return None;
+        }
         let end = count_before(text, b'\n');
         let next = end.saturating_add(1).min(text.len());
         self.rest = &text[next..];
-        if text.len() == 0 {
-            return None;
-        }
-        Some(&text[0..end])
+        Some(&text[..end])
     }
 }
 
@@ -56,10 +55,7 @@ impl<'a> Lines<'a> {
 pub fn passed_over(line: &[u8]) -> bool
     ensures { result ≡ passed_over line.now }
 {
-    match line {
-        [] => true,
-        [b, ..] => *b == b'#',
-    }
+    matches!(line, [] | [b'#', ..])
 }
 
 // The words of a line, parted by spaces.
@@ -68,22 +64,102 @@ pub struct Words<'a> {
     pub rest: &'a [u8],
 }
 
-impl<'a> Words<'a> {
+impl<'a> Iterator for Words<'a> {
+    ghost use Rattle.std.specs.Prelude.{length};
+    ghost use Rattle.std.specs.Iterator.{at_most};
+    ghost use Rattle.script.specs.Views.{TakesWord};
+
+    type Item = &'a [u8];
+
+    ghost next_gives = { λ s r t. TakesWord s.rest.now r t.rest.now };
+
+    ghost remaining = { λ s. at_most (length s.rest.now) };
+
     // The next word, or nothing where only spaces are left.
-    pub fn next(&mut self) -> Option<&'a [u8]>
-        ensures word { shown result ≡ word self.old.rest.now }
-        ensures rest { self.new.rest.now ≡ after_word self.old.rest.now }
-        ensures shorter { is_some result ≡ true → length self.new.rest.now < length self.old.rest.now }
-    {
-        let text = self.rest;
-        let spaces = count_run(text, b' ');
-        let text = &text[spaces..];
+    fn next(&mut self) -> Option<&'a [u8]> {
+        let text = &self.rest[count_spaces(self.rest)..];
         let end = count_before(text, b' ');
         self.rest = &text[end..];
-        if text.len() == 0 {
+        if text.is_empty() {
             return None;
         }
-        Some(&text[0..end])
+        Some(&text[..end])
+    }
+}
+
+impl<'a> Words<'a> {
+    // The next word, which has to be there.
+    pub fn word(&mut self) -> Result<&'a [u8], LineError>
+        ensures word { IsReadBy (λ w. w.now) result (word self.old.rest.now) }
+        ensures rest { self.new.rest.now ≡ after_word self.old.rest.now }
+        ensures shorter { OnOk result (length self.new.rest.now < length self.old.rest.now) }
+    {
+        self.next().ok_or(LineError::NotUnderstood)
+    }
+
+    // The next word, which has to be this one.
+    pub fn expect(&mut self, name: &[u8]) -> Result<(), LineError>
+        ensures word { IsOk result ↔ (word self.old.rest.now ≡ Some name.now) }
+        ensures err { IsOkUnless result LineError.NotUnderstood }
+        ensures rest { self.new.rest.now ≡ after_word self.old.rest.now }
+        ensures shorter { OnOk result (length self.new.rest.now < length self.old.rest.now) }
+    {
+        if self.word()? == name {
+            Ok(())
+        } else {
+            Err(LineError::NotUnderstood)
+        }
+    }
+
+    // No further word, which has to be so.
+    pub fn end(&mut self) -> Result<(), LineError>
+        ensures word { IsOk result ↔ (word self.old.rest.now ≡ None) }
+        ensures err { IsOkUnless result LineError.NotUnderstood }
+        ensures rest { self.new.rest.now ≡ after_word self.old.rest.now }
+    {
+        match self.next() {
+            None => Ok(()),
+            Some(_) => Err(LineError::NotUnderstood),
+        }
+    }
+
+    // The next word as a number that the type holds.
+    pub fn number<T: TryFrom<u32>>(&mut self) -> Result<T, LineError>
+    where
+        T: Drop,
+        T::Error: Drop,
+        ensures number { IsReadInto T.try_from_gives result (next_number self.old.rest.now) }
+        ensures rest { self.new.rest.now ≡ after_word self.old.rest.now }
+        ensures shorter { OnOk result (length self.new.rest.now < length self.old.rest.now) }
+    {
+        let number = decimal(self.word()?, u32::MAX).ok_or(LineError::NotUnderstood)?;
+        T::try_from(number).ok().ok_or(LineError::NotUnderstood)
+    }
+
+    // The next four words as bytes.
+    pub fn four_bytes(&mut self) -> Result<[u8; 4], LineError>
+        ensures bytes { result ≡ ok_or (next_bytes 4 self.old.rest.now) LineError.NotUnderstood }
+        ensures rest { self.new.rest.now ≡ after_bytes 4 self.old.rest.now }
+        ensures shorter { OnOk result (length self.new.rest.now < length self.old.rest.now) }
+    {
+        Ok([self.byte()?, self.byte()?, self.byte()?, self.byte()?])
+    }
+
+    fn byte(&mut self) -> Result<u8, LineError>
+        ensures byte { result ≡ ok_or (next_byte self.old.rest.now) LineError.NotUnderstood }
+        ensures rest { self.new.rest.now ≡ after_word self.old.rest.now }
+        ensures shorter { OnOk result (length self.new.rest.now < length self.old.rest.now) }
+    {
+        self.number()
+    }
+
+    // The bytes that the next word writes in hexadecimal.
+    pub fn bytes(&mut self, heap: Global) -> Result<Vec<u8>, LineError>
+        ensures bytes { IsReadByOrFails (λ v. v.items) result (option_and_then bytes_of (word self.old.rest.now)) }
+        ensures rest { self.new.rest.now ≡ after_word self.old.rest.now }
+        ensures shorter { OnOk result (length self.new.rest.now < length self.old.rest.now) }
+    {
+        hex(heap, self.word()?)
     }
 }
 
@@ -91,7 +167,7 @@ impl<'a> Words<'a> {
 pub fn decimal(word: &[u8], most: u32) -> Option<u32>
     ensures { result ≡ number most word.now }
 {
-    if word.len() == 0 {
+    if word.is_empty() {
         return None;
     }
     digits(word, most)
@@ -112,11 +188,11 @@ fn digits(word: &[u8], most: u32) -> Option<u32>
 fn longer(n: u32, b: u8, most: u32) -> Option<u32>
     ensures { result ≡ (if is_digit b && nat_le (n * 10 + (b - 48)) most then Some (n * 10 + (b - 48)) else None) }
 {
-    if b < b'0' || b > b'9' {
+    if !b.is_ascii_digit() {
         return None;
     }
-    let x = n as u64 * 10 + (b - b'0') as u64;
-    if x > most as u64 {
+    let x = u64::from(n) * 10 + u64::from(b - b'0');
+    if x > u64::from(most) {
         return None;
     }
     Some(x as u32)
