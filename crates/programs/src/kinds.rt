@@ -1,58 +1,47 @@
 use crate::noted::{Noted, Part, Unmade};
-use crate::plans::{BoxesPlan, TablePlan, boxes_plan, expect, table_plan};
-use belief::Belief;
+use crate::plans::{Leaning, Plan};
 use boxes::Boxes;
 use pair::Pair;
 use refusal::Refusal;
-use script::Words;
-use std::alloc::{AllocError, Global};
+use script::{LineError, Words};
+use std::alloc::Global;
 use table::Table;
 
-fn at_part<B>(made: Result<B, Refusal>, part: Part) -> Result<B, Unmade> {
-    match made {
-        Ok(belief) => Ok(belief),
-        Err(refusal) => Err(Unmade { part, refusal }),
+impl Part {
+    // What became of a call that makes this part.
+    fn made<T>(self, made: Result<T, Refusal>) -> Result<T, Unmade> {
+        made.map_err(|refusal| Unmade {
+            part: self,
+            refusal,
+        })
     }
 }
 
 impl Noted for Table {
-    type Plan = TablePlan;
+    type Plan = Plan<u32>;
 
-    fn plan(heap: Global, words: &mut Words<'_>) -> Result<Option<TablePlan>, AllocError> {
-        table_plan(heap, words)
+    fn plan(heap: Global, words: &mut Words<'_>) -> Result<Plan<u32>, LineError> {
+        Plan::read(heap, words, b"table")
     }
 
-    fn made(plan: &TablePlan) -> Result<Table, Unmade> {
-        let tops = plan.span.tops;
-        at_part(
-            Table::make(
-                plan.span.first,
-                plan.span.count,
-                tops,
-                plan.weights.as_slice(),
-            ),
-            Part::Table,
-        )
+    fn made(plan: &Plan<u32>) -> Result<Table, Unmade> {
+        let span = &plan.span;
+        Part::Table.made(Table::make(span.first, span.count, span.tops, &plan.items))
     }
 }
 
 impl Noted for Boxes {
-    type Plan = BoxesPlan;
+    type Plan = Plan<Leaning>;
 
-    fn plan(heap: Global, words: &mut Words<'_>) -> Result<Option<BoxesPlan>, AllocError> {
-        boxes_plan(heap, words)
+    fn plan(heap: Global, words: &mut Words<'_>) -> Result<Plan<Leaning>, LineError> {
+        Plan::read(heap, words, b"boxes")
     }
 
-    fn made(plan: &BoxesPlan) -> Result<Boxes, Unmade> {
-        let tops = plan.span.tops;
-        let mut boxes = at_part(
-            Boxes::fresh(plan.span.first, plan.span.count, tops),
-            Part::Boxes,
-        )?;
-        for lean in plan.leanings.iter() {
-            let lowest = lean.lowest;
-            let highest = lean.highest;
-            at_part(boxes.lean(lowest, highest, lean.factor as u32), Part::Lean)?;
+    fn made(plan: &Plan<Leaning>) -> Result<Boxes, Unmade> {
+        let span = &plan.span;
+        let mut boxes = Part::Boxes.made(Boxes::fresh(span.first, span.count, span.tops))?;
+        for lean in &plan.items {
+            Part::Lean.made(boxes.lean(lean.lowest, lean.highest, u32::from(lean.factor)))?;
         }
         Ok(boxes)
     }
@@ -68,25 +57,15 @@ pub(crate) struct Sides<L, R> {
 impl<L: Noted, R: Noted> Noted for Pair<L, R> {
     type Plan = Sides<L::Plan, R::Plan>;
 
-    fn plan(
-        heap: Global,
-        words: &mut Words<'_>,
-    ) -> Result<Option<Sides<L::Plan, R::Plan>>, AllocError> {
-        let Some(left) = L::plan(heap, words)? else {
-            return Ok(None);
-        };
-        if expect(words, b";").is_none() {
-            return Ok(None);
-        }
-        let Some(right) = R::plan(heap, words)? else {
-            return Ok(None);
-        };
-        Ok(Some(Sides { left, right }))
+    // LEFT ; RIGHT
+    fn plan(heap: Global, words: &mut Words<'_>) -> Result<Sides<L::Plan, R::Plan>, LineError> {
+        let left = L::plan(heap, words)?;
+        words.expect(b";")?;
+        let right = R::plan(heap, words)?;
+        Ok(Sides { left, right })
     }
 
     fn made(plan: &Sides<L::Plan, R::Plan>) -> Result<Pair<L, R>, Unmade> {
-        let left = L::made(&plan.left)?;
-        let right = R::made(&plan.right)?;
-        at_part(Pair::make(left, right), Part::Pair)
+        Part::Pair.made(Pair::make(L::made(&plan.left)?, R::made(&plan.right)?))
     }
 }

@@ -3,6 +3,7 @@
 // crates/examples are run and compared. It rests on every crate below.
 #![tactic(auto)]
 
+mod choosing;
 mod kinds;
 mod listing;
 mod noted;

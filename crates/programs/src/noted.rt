@@ -1,7 +1,7 @@
 use belief::Belief;
 use refusal::Refusal;
-use script::{Declined, Words};
-use std::alloc::{AllocError, Global};
+use script::{LineError, Words};
+use std::alloc::Global;
 use std::fmt;
 
 // A part of a belief.
@@ -13,6 +13,17 @@ pub(crate) enum Part {
     Pair,
 }
 
+impl fmt::Display for Part {
+    fn fmt<W: fmt::Write>(&self, f: &mut fmt::Formatter<W>) -> fmt::Result {
+        f.write_str(match self {
+            Part::Table => "table",
+            Part::Boxes => "boxes",
+            Part::Lean => "lean",
+            Part::Pair => "pair",
+        })
+    }
+}
+
 // Why a belief could not be made, and at which part.
 #[derive(Clone, Copy)]
 pub(crate) struct Unmade {
@@ -20,27 +31,20 @@ pub(crate) struct Unmade {
     pub(crate) refusal: Refusal,
 }
 
+impl fmt::Display for Unmade {
+    fn fmt<W: fmt::Write>(&self, f: &mut fmt::Formatter<W>) -> fmt::Result {
+        write!(f, "{} {}", self.part, self.refusal)
+    }
+}
+
 // A kind of belief that a script can write out.
 pub(crate) trait Noted: Belief + Default {
     // What the words say, before anything is made.
     type Plan: Drop;
 
-    // Reads the words of a belief; nothing where they are not understood.
-    fn plan(heap: Global, words: &mut Words<'_>) -> Result<Option<Self::Plan>, AllocError>;
+    // Reads the words of a belief.
+    fn plan(heap: Global, words: &mut Words<'_>) -> Result<Self::Plan, LineError>;
 
     // Makes what was read, the parts from left to right.
     fn made(plan: &Self::Plan) -> Result<Self, Unmade>;
-}
-
-impl fmt::Display for Unmade {
-    fn fmt<W: fmt::Write>(&self, f: &mut fmt::Formatter<W>) -> fmt::Result {
-        let part = match self.part {
-            Part::Table => "table",
-            Part::Boxes => "boxes",
-            Part::Lean => "lean",
-            Part::Pair => "pair",
-        };
-        let declined = Declined(self.refusal);
-        write!(f, "{part} {declined}")
-    }
 }

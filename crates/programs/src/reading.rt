@@ -1,11 +1,47 @@
-use crate::plans::{ended, expect};
-use script::{Lines, Words, passed_over};
+ghost use Rattle.std.specs.Prelude.{length};
+ghost use Rattle.std.specs.Iterator.{at_most};
 
-// A script, and the number of the line that was read last.
+use script::{LineError, Lines, Words, passed_over};
+
+// A line of a script, with its number among all lines.
+#[derive(Clone, Copy)]
+pub(crate) struct Line<'a> {
+    pub(crate) number: usize,
+    pub(crate) text: &'a [u8],
+}
+
+impl<'a> Line<'a> {
+    pub(crate) fn words(self) -> Words<'a> {
+        Words { rest: self.text }
+    }
+}
+
+// The lines of a script that are not passed over.
 #[derive(Clone, Copy)]
 pub(crate) struct Script<'a> {
     lines: Lines<'a>,
-    pub(crate) number: u64,
+    // the number of the line that was read last; at the end, that of the line that is missing
+    pub(crate) number: usize,
+}
+
+impl<'a> Iterator for Script<'a> {
+    type Item = Line<'a>;
+
+    ghost remaining = { λ s. at_most (length s.lines.rest.now) };
+
+    fn next(&mut self) -> Option<Line<'a>> {
+        while let Some(text) = self.lines.next() {
+            self.number = self.number.saturating_add(1);
+            if !passed_over(text) {
+                return Some(Line {
+                    number: self.number,
+                    text,
+                });
+            }
+        }
+        self.number = self.number.saturating_add(1);
+        None
+    }
 }
 
 impl<'a> Script<'a> {
@@ -16,60 +52,11 @@ impl<'a> Script<'a> {
         }
     }
 
-    // The next line that is not passed over. At the end the number is that of the line that is missing.
-    pub(crate) fn next_line(&mut self) -> Option<&'a [u8]> {
-        for _ in 0..self.lines.rest.len() {
-            let Some(line) = self.lines.next() else {
-                break;
-            };
-            self.number = self.number.saturating_add(1);
-            if !passed_over(line) {
-                return Some(line);
-            }
-        }
-        self.number = self.number.saturating_add(1);
-        None
+    // The words after the name of the next line, which has to have this name.
+    pub(crate) fn head(&mut self, name: &[u8]) -> Result<Words<'a>, LineError> {
+        let line = self.next().ok_or(LineError::NotUnderstood)?;
+        let mut words = line.words();
+        words.expect(name)?;
+        Ok(words)
     }
-
-    // At least as many as there are lines still to be read.
-    pub(crate) fn left(&self) -> usize {
-        self.lines.rest.len()
-    }
-
-    // The words after the name of the next line, if it has this name.
-    pub(crate) fn head(&mut self, name: &[u8]) -> Option<Words<'a>> {
-        let mut words = Words {
-            rest: self.next_line()?,
-        };
-        expect(&mut words, name)?;
-        Some(words)
-    }
-}
-
-// The kinds that a script can choose.
-#[derive(Clone, Copy)]
-pub(crate) enum Kind {
-    Table,
-    Boxes,
-    TableTable,
-    TableBoxes,
-    BoxesTable,
-    BoxesBoxes,
-    TableTableBoxes,
-}
-
-// kind KIND
-pub(crate) fn chosen_kind(script: &mut Script<'_>) -> Option<Kind> {
-    let mut words = script.head(b"kind")?;
-    let kind = match words.next()? {
-        b"T" => Kind::Table,
-        b"B" => Kind::Boxes,
-        b"PTT" => Kind::TableTable,
-        b"PTB" => Kind::TableBoxes,
-        b"PBT" => Kind::BoxesTable,
-        b"PBB" => Kind::BoxesBoxes,
-        b"PPTTB" => Kind::TableTableBoxes,
-        _ => return None,
-    };
-    if ended(&mut words) { Some(kind) } else { None }
 }

@@ -1,58 +1,39 @@
+use crate::choosing::{Program, run_script};
 use crate::noted::Noted;
-use crate::plans::{byte, ended, four_bytes};
-use crate::reading::{Kind, Script, chosen_kind};
+use crate::reading::Script;
 use belief::Belief;
-use boxes::Boxes;
-use pair::Pair;
 use question::GREATEST;
 use refusal::Refusal;
-use script::{Declined, Words, hex};
+use script::{LineError, Words};
 use std::io;
-use table::Table;
+
+struct Weighing;
 
 // Works through a script about one belief, and prints what a question would tell.
 pub fn weigh_script(rt: &HostRuntime, text: &[u8]) -> io::Result<()> {
-    let mut script = Script::new(text);
-    match chosen_kind(&mut script) {
-        None => not_understood(rt, script.number),
-        Some(Kind::Table) => weigh_kind::<Table>(rt, script),
-        Some(Kind::Boxes) => weigh_kind::<Boxes>(rt, script),
-        Some(Kind::TableTable) => weigh_kind::<Pair<Table, Table>>(rt, script),
-        Some(Kind::TableBoxes) => weigh_kind::<Pair<Table, Boxes>>(rt, script),
-        Some(Kind::BoxesTable) => weigh_kind::<Pair<Boxes, Table>>(rt, script),
-        Some(Kind::BoxesBoxes) => weigh_kind::<Pair<Boxes, Boxes>>(rt, script),
-        Some(Kind::TableTableBoxes) => weigh_kind::<Pair<Pair<Table, Table>, Boxes>>(rt, script),
-    }
+    run_script::<Weighing>(rt, text)
 }
 
-pub(crate) fn not_understood(rt: &HostRuntime, number: u64) -> io::Result<()> {
-    println!(rt; "line {number}: not understood")
-}
-
-fn weigh_kind<B: Noted>(rt: &HostRuntime, mut script: Script<'_>) -> io::Result<()> {
-    let Some(plan) = belief_plan::<B>(rt, &mut script)? else {
-        return not_understood(rt, script.number);
-    };
-    match B::made(&plan) {
-        Err(unmade) => println!(rt; "belief: {unmade}"),
-        Ok(belief) => {
-            print_belief(rt, "belief", &belief)?;
-            weigh_lines(rt, belief, script)
+impl Program for Weighing {
+    fn run<B: Noted>(rt: &HostRuntime, script: &mut Script<'_>) -> Result<(), LineError> {
+        let plan = belief_plan::<B>(rt, script)?;
+        match B::made(&plan) {
+            Err(unmade) => println!(rt; "belief: {unmade}")?,
+            Ok(belief) => {
+                print_belief(rt, "belief", &belief)?;
+                weigh_lines(rt, belief, script)?;
+            }
         }
+        Ok(())
     }
 }
 
 // belief BELIEF
-fn belief_plan<B: Noted>(rt: &HostRuntime, script: &mut Script<'_>) -> io::Result<Option<B::Plan>> {
-    let Some(mut words) = script.head(b"belief") else {
-        return Ok(None);
-    };
+fn belief_plan<B: Noted>(rt: &HostRuntime, script: &mut Script<'_>) -> Result<B::Plan, LineError> {
+    let mut words = script.head(b"belief")?;
     let plan = B::plan(rt.alloc(), &mut words)?;
-    if ended(&mut words) {
-        Ok(plan)
-    } else {
-        Ok(None)
-    }
+    words.end()?;
+    Ok(plan)
 }
 
 fn print_belief<B: Belief>(rt: &HostRuntime, name: &str, belief: &B) -> io::Result<()> {
@@ -65,77 +46,56 @@ fn print_belief<B: Belief>(rt: &HostRuntime, name: &str, belief: &B) -> io::Resu
 fn weigh_lines<B: Belief>(
     rt: &HostRuntime,
     mut belief: B,
-    mut script: Script<'_>,
+    script: &mut Script<'_>,
 ) -> io::Result<()> {
-    for _ in 0..script.left() {
-        let Some(line) = script.next_line() else {
-            break;
-        };
-        if !weigh_line(rt, &mut belief, Words { rest: line })? {
-            not_understood(rt, script.number)?;
+    for line in script {
+        if let Err(error) = weigh_line(rt, &mut belief, line.words()) {
+            error.report(rt, line.number)?;
         }
     }
     Ok(())
 }
 
-// One line; false where it is not understood.
 fn weigh_line<B: Belief>(
     rt: &HostRuntime,
     belief: &mut B,
     mut words: Words<'_>,
-) -> io::Result<bool> {
-    match words.next() {
-        Some(b"weight") => weight(rt, belief, words),
-        Some(b"weigh") => weigh(rt, belief, words),
-        Some(b"revise") => revise(rt, belief, words),
-        _ => Ok(false),
+) -> Result<(), LineError> {
+    match words.word()? {
+        b"weight" => weight(rt, belief, words),
+        b"weigh" => weigh(rt, belief, words),
+        b"revise" => revise(rt, belief, words),
+        _ => Err(LineError::NotUnderstood),
     }
 }
 
 // weight S0 S1 S2 S3
-fn weight<B: Belief>(rt: &HostRuntime, belief: &B, mut words: Words<'_>) -> io::Result<bool> {
-    let Some(sheet) = four_bytes(&mut words) else {
-        return Ok(false);
-    };
-    if !ended(&mut words) {
-        return Ok(false);
-    }
+fn weight<B: Belief>(rt: &HostRuntime, belief: &B, mut words: Words<'_>) -> Result<(), LineError> {
+    let sheet = words.four_bytes()?;
+    words.end()?;
     let weight = belief.weight(sheet);
     println!(rt; "weight: {weight}")?;
-    Ok(true)
-}
-
-// The next word as bytes.
-pub(crate) fn question_bytes(
-    rt: &HostRuntime,
-    words: &mut Words<'_>,
-) -> io::Result<Option<Vec<u8>>> {
-    match words.next() {
-        Some(word) => Ok(hex(rt.alloc(), word)?),
-        None => Ok(None),
-    }
+    Ok(())
 }
 
 // weigh HEX
-fn weigh<B: Belief>(rt: &HostRuntime, belief: &B, mut words: Words<'_>) -> io::Result<bool> {
-    let Some(question) = question_bytes(rt, &mut words)? else {
-        return Ok(false);
-    };
-    if !ended(&mut words) {
-        return Ok(false);
-    }
+fn weigh<B: Belief>(rt: &HostRuntime, belief: &B, mut words: Words<'_>) -> Result<(), LineError> {
+    let question = words.bytes(rt.alloc())?;
+    words.end()?;
+    print_answers(rt, belief, &question)?;
+    Ok(())
+}
+
+// Prints each answer that is possible, or why the question is refused.
+fn print_answers<B: Belief>(rt: &HostRuntime, belief: &B, question: &[u8]) -> io::Result<()> {
     let mut left = belief.total();
     for answer in 0..=GREATEST {
         // Once the answers so far have all the weight, no further one is possible.
         if left == 0 {
             break;
         }
-        match told(belief, question.as_slice(), answer) {
-            Err(refusal) => {
-                let declined = Declined(refusal);
-                println!(rt; "weigh: {declined}")?;
-                break;
-            }
+        match told(belief, question, answer) {
+            Err(refusal) => return println!(rt; "weigh: {refusal}"),
             Ok(None) => {}
             Ok(Some((mass, heaviest))) => {
                 left = left.saturating_sub(mass);
@@ -143,7 +103,7 @@ fn weigh<B: Belief>(rt: &HostRuntime, belief: &B, mut words: Words<'_>) -> io::R
             }
         }
     }
-    Ok(true)
+    Ok(())
 }
 
 // The mass of an answer and its heaviest sheet, if it is possible.
@@ -156,22 +116,17 @@ fn told<B: Belief>(belief: &B, question: &[u8], answer: u8) -> Result<Option<(u6
 }
 
 // revise HEX ANSWER
-fn revise<B: Belief>(rt: &HostRuntime, belief: &mut B, mut words: Words<'_>) -> io::Result<bool> {
-    let Some(question) = question_bytes(rt, &mut words)? else {
-        return Ok(false);
-    };
-    let Some(answer) = byte(&mut words) else {
-        return Ok(false);
-    };
-    if !ended(&mut words) {
-        return Ok(false);
-    }
-    match belief.revise(question.as_slice(), answer) {
+fn revise<B: Belief>(
+    rt: &HostRuntime,
+    belief: &mut B,
+    mut words: Words<'_>,
+) -> Result<(), LineError> {
+    let question = words.bytes(rt.alloc())?;
+    let answer = words.number()?;
+    words.end()?;
+    match belief.revise(&question, answer) {
         Ok(_) => print_belief(rt, "revise", belief)?,
-        Err(refusal) => {
-            let declined = Declined(refusal);
-            println!(rt; "revise: {declined}")?;
-        }
+        Err(refusal) => println!(rt; "revise: {refusal}")?,
     }
-    Ok(true)
+    Ok(())
 }
