@@ -2,7 +2,7 @@ use crate::noted::Noted;
 use crate::reading::Script;
 use boxes::Boxes;
 use pair::Pair;
-use script::LineError;
+use script::{LineError, NotUnderstood};
 use std::io;
 use table::Table;
 
@@ -19,9 +19,9 @@ enum Kind {
 }
 
 impl TryFrom<&[u8]> for Kind {
-    type Error = LineError;
+    type Error = NotUnderstood;
 
-    fn try_from(name: &[u8]) -> Result<Kind, LineError> {
+    fn try_from(name: &[u8]) -> Result<Kind, NotUnderstood> {
         match name {
             b"T" => Ok(Kind::Table),
             b"B" => Ok(Kind::Boxes),
@@ -30,7 +30,7 @@ impl TryFrom<&[u8]> for Kind {
             b"PBT" => Ok(Kind::BoxesTable),
             b"PBB" => Ok(Kind::BoxesBoxes),
             b"PPTTB" => Ok(Kind::TableTableBoxes),
-            _ => Err(LineError::NotUnderstood),
+            _ => Err(NotUnderstood),
         }
     }
 }
@@ -62,7 +62,7 @@ fn run_kind<P: Program>(rt: &HostRuntime, script: &mut Script<'_>) -> Result<(),
 }
 
 // kind KIND
-fn chosen_kind(script: &mut Script<'_>) -> Result<Kind, LineError> {
+fn chosen_kind(script: &mut Script<'_>) -> Result<Kind, NotUnderstood> {
     let mut words = script.head(b"kind")?;
     let kind = Kind::try_from(words.word()?)?;
     words.end()?;

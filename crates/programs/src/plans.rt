@@ -1,6 +1,6 @@
 ghost use Rattle.std.specs.Prelude.{◌<◌, length, OnOk};
 
-use script::{LineError, Words};
+use script::{LineError, NotUnderstood, Words};
 use std::alloc::Global;
 
 // A span with its tops, as a line writes it.
@@ -13,7 +13,7 @@ pub(crate) struct Span {
 
 impl Span {
     // FIRST COUNT T0 T1 T2 T3
-    fn read(words: &mut Words<'_>) -> Result<Span, LineError> {
+    fn read(words: &mut Words<'_>) -> Result<Span, NotUnderstood> {
         Ok(Span {
             first: words.number()?,
             count: words.number()?,
@@ -25,13 +25,13 @@ impl Span {
 // What a plan has any number of.
 pub(crate) trait Item: Drop + Sized {
     // Reads one, of a word at least.
-    fn read(words: &mut Words<'_>) -> Result<Self, LineError>
+    fn read(words: &mut Words<'_>) -> Result<Self, NotUnderstood>
         ensures { OnOk result (length words.new.rest.now < length words.old.rest.now) };
 }
 
 // A weight: W
 impl Item for u32 {
-    fn read(words: &mut Words<'_>) -> Result<u32, LineError> {
+    fn read(words: &mut Words<'_>) -> Result<u32, NotUnderstood> {
         words.number()
     }
 }
@@ -46,7 +46,7 @@ pub(crate) struct Leaning {
 
 // lean L0 L1 L2 L3 H0 H1 H2 H3 FACTOR
 impl Item for Leaning {
-    fn read(words: &mut Words<'_>) -> Result<Leaning, LineError> {
+    fn read(words: &mut Words<'_>) -> Result<Leaning, NotUnderstood> {
         words.expect(b"lean")?;
         Ok(Leaning {
             lowest: words.four_bytes()?,

@@ -1,7 +1,7 @@
 ghost use Rattle.std.specs.Prelude.{length};
 ghost use Rattle.std.specs.Iterator.{at_most};
 
-use script::{LineError, Lines, Words, passed_over};
+use script::{Lines, NotUnderstood, Words, passed_over};
 
 // A line of a script, with its number among all lines.
 #[derive(Clone, Copy)]
@@ -53,8 +53,8 @@ impl<'a> Script<'a> {
     }
 
     // The words after the name of the next line, which has to have this name.
-    pub(crate) fn head(&mut self, name: &[u8]) -> Result<Words<'a>, LineError> {
-        let line = self.next().ok_or(LineError::NotUnderstood)?;
+    pub(crate) fn head(&mut self, name: &[u8]) -> Result<Words<'a>, NotUnderstood> {
+        let line = self.next().ok_or(NotUnderstood)?;
         let mut words = line.words();
         words.expect(name)?;
         Ok(words)

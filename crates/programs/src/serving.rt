@@ -5,7 +5,7 @@ use crate::reading::Script;
 use belief::Belief;
 use cabinet::{Call, Folder, Return, session};
 use refusal::Refusal;
-use script::{LineError, Words};
+use script::{LineError, NotUnderstood, Words};
 use std::alloc::Global;
 use std::io;
 
@@ -39,7 +39,7 @@ impl Head {
     // cabinet COUNT T0 T1 T2 T3 S0 S1 S2 S3
     // folders PLACES
     // audit BYTES
-    fn read(script: &mut Script<'_>) -> Result<Head, LineError> {
+    fn read(script: &mut Script<'_>) -> Result<Head, NotUnderstood> {
         let mut words = script.head(b"cabinet")?;
         let count = words.number()?;
         let tops = words.four_bytes()?;
@@ -57,12 +57,12 @@ impl Head {
     }
 }
 
-fn read_size(script: &mut Script<'_>, name: &[u8], most: usize) -> Result<usize, LineError> {
+fn read_size(script: &mut Script<'_>, name: &[u8], most: usize) -> Result<usize, NotUnderstood> {
     let mut words = script.head(name)?;
     let size = words.number()?;
     words.end()?;
     if size > most {
-        return Err(LineError::NotUnderstood);
+        return Err(NotUnderstood);
     }
     Ok(size)
 }
@@ -91,31 +91,40 @@ fn read_lines<B: Noted>(heap: Global, script: &mut Script<'_>) -> Result<Vec<Lin
 }
 
 fn read_line<B: Noted>(heap: Global, mut words: Words<'_>) -> Result<Line<B>, LineError> {
-    let line = match words.word()? {
-        b"enrol" => read_enrol(heap, &mut words)?,
-        b"ask" => Line::Ask {
-            code: words.number()?,
-            question: words.bytes(heap)?,
-        },
-        b"look" => Line::Look {
-            code: words.number()?,
-        },
-        _ => return Err(LineError::NotUnderstood),
-    };
-    words.end()?;
-    Ok(line)
+    match words.word()? {
+        b"enrol" => read_enrol(heap, words),
+        b"ask" => read_ask(heap, words),
+        b"look" => Ok(read_look(words)?),
+        _ => Err(LineError::NotUnderstood),
+    }
 }
 
-// CODE N D BELIEF
-fn read_enrol<B: Noted>(heap: Global, words: &mut Words<'_>) -> Result<Line<B>, LineError> {
+// enrol CODE N D BELIEF
+fn read_enrol<B: Noted>(heap: Global, mut words: Words<'_>) -> Result<Line<B>, LineError> {
     let code = words.number()?;
     let n = words.number()?;
     let d = words.number()?;
-    let plan = B::plan(heap, words)?;
+    let plan = B::plan(heap, &mut words)?;
+    words.end()?;
     Ok(match B::made(&plan) {
         Ok(belief) => Line::Enrol(Folder { code, n, d, belief }),
         Err(unmade) => Line::Unmade { code, unmade },
     })
+}
+
+// ask CODE HEX
+fn read_ask<B: Noted>(heap: Global, mut words: Words<'_>) -> Result<Line<B>, LineError> {
+    let code = words.number()?;
+    let question = words.bytes(heap)?;
+    words.end()?;
+    Ok(Line::Ask { code, question })
+}
+
+// look CODE
+fn read_look<B: Noted>(mut words: Words<'_>) -> Result<Line<B>, NotUnderstood> {
+    let code = words.number()?;
+    words.end()?;
+    Ok(Line::Look { code })
 }
 
 fn serve_lines<B: Noted>(rt: &HostRuntime, head: &Head, lines: &[Line<B>]) -> io::Result<()> {

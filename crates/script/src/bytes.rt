@@ -1,8 +1,9 @@
-ghost use Rattle.std.specs.Prelude.{◌≡◌, ok_or};
+ghost use Rattle.std.specs.Prelude.{◌≡◌};
+ghost use Rattle.std.specs.Result.{result_ok};
 ghost use Rattle.script.specs.Text.{nibble, pairs, is_sized, bytes_of, HexReadsBack};
-ghost use Rattle.script.specs.Read.{IsReadByOrFails};
+ghost use Rattle.script.specs.Read.{IsReadBy};
 
-use crate::LineError;
+use crate::{LineError, NotUnderstood};
 use std::alloc::Global;
 
 // The most bytes that a word may write.
@@ -11,7 +12,7 @@ pub const MOST_BYTES: usize = 200;
 // The bytes that a word writes in hexadecimal, two digits of either case for each; a hyphen stands for none.
 #[tactic(auto, using(crate::proofs::Pairs::reads_back))]
 pub fn hex(heap: Global, word: &[u8]) -> Result<Vec<u8>, LineError>
-    ensures bytes { IsReadByOrFails (λ v. v.items) result (bytes_of word.now) }
+    ensures bytes { IsReadBy (λ v. v.items) result (bytes_of word.now) }
     ensures back { HexReadsBack }
 {
     match word {
@@ -30,7 +31,7 @@ fn is_sized(word: &[u8]) -> bool
 // The bytes that pairs of hexadecimal digits write, of any number.
 #[tactic(auto, using(crate::proofs::Pairs::no_high, crate::proofs::Pairs::no_low, crate::proofs::Pairs::one_more, crate::proofs::Pairs::end, crate::proofs::Pairs::odd))]
 pub fn hex_digits(heap: Global, word: &[u8]) -> Result<Vec<u8>, LineError>
-    ensures { IsReadByOrFails (λ v. v.items) result (pairs word.now) }
+    ensures { IsReadBy (λ v. v.items) result (pairs word.now) }
 {
     let mut bytes = Vec::new(heap);
     let mut rest = word;
@@ -46,13 +47,13 @@ pub fn hex_digits(heap: Global, word: &[u8]) -> Result<Vec<u8>, LineError>
 }
 
 // The value of a hexadecimal digit.
-fn digit(b: u8) -> Result<u8, LineError>
-    ensures { result ≡ ok_or (nibble b) LineError.NotUnderstood }
+fn digit(b: u8) -> Result<u8, NotUnderstood>
+    ensures { result_ok result ≡ nibble b }
 {
     match b {
         b'0'..=b'9' => Ok(b - b'0'),
         b'A'..=b'F' => Ok(b - b'A' + 10),
         b'a'..=b'f' => Ok(b - b'a' + 10),
-        _ => Err(LineError::NotUnderstood),
+        _ => Err(NotUnderstood),
     }
 }

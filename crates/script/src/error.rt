@@ -1,13 +1,27 @@
 use std::alloc::{AllocError, AllocFailed};
 use std::io;
 
+// That a line does not say what it has to say.
+#[derive(Clone, Copy, Debug)]
+pub struct NotUnderstood;
+
 // Why a line was not worked through.
 #[derive(Clone, Copy, Debug)]
 pub enum LineError {
-    // It does not say what it has to say.
     NotUnderstood,
     // Memory ran out, or a write failed.
     Failed(io::Error),
+}
+
+impl From<NotUnderstood> for LineError {
+    ghost use Rattle.std.specs.Prelude.{◌≡◌};
+    ghost use Rattle.script.specs.declared.error.LineError.TheVariants.{NotUnderstood};
+
+    ghost from_gives = { λ _ r. r ≡ NotUnderstood };
+
+    fn from(_error: NotUnderstood) -> LineError {
+        LineError::NotUnderstood
+    }
 }
 
 impl From<io::Error> for LineError {

@@ -10,7 +10,7 @@ mod source;
 mod words;
 
 pub use bytes::{hex, hex_digits};
-pub use error::LineError;
+pub use error::{LineError, NotUnderstood};
 pub use print::Hex;
 pub use source::input;
 pub use words::{Lines, Words, decimal, passed_over};

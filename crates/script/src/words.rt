@@ -1,8 +1,10 @@
-ghost use Rattle.std.specs.Prelude.{◌≡◌, ◌+◌, ◌-◌, ◌*◌, ◌<◌, ◌≤◌, ◌↔◌, ◌&&◌, length, IsOk, IsOkUnless, OnOk, ok_or, option_and_then, if◌then◌else◌, Some, None, nat_le};
+ghost use Rattle.std.specs.Prelude.{◌≡◌, ◌+◌, ◌-◌, ◌*◌, ◌<◌, ◌≤◌, ◌↔◌, ◌&&◌, length, IsOk, OnOk, option_and_then, if◌then◌else◌, Some, None, nat_le};
 ghost use Rattle.script.specs.Text.{before, run, passed_over, word, after_word, next_number, next_byte, next_bytes, after_bytes, is_digit, number, decimal_from, bytes_of};
-ghost use Rattle.script.specs.Read.{IsReadBy, IsReadByOrFails, IsReadInto};
+ghost use Rattle.std.specs.Result.{result_ok};
+ghost use Rattle.script.specs.Views.{shown};
+ghost use Rattle.script.specs.Read.{IsReadBy, IsReadInto};
 
-use crate::{LineError, hex};
+use crate::{LineError, NotUnderstood, hex};
 use std::alloc::Global;
 
 // How many bytes stand before the first that is b.
@@ -89,64 +91,62 @@ impl<'a> Iterator for Words<'a> {
 
 impl<'a> Words<'a> {
     // The next word, which has to be there.
-    pub fn word(&mut self) -> Result<&'a [u8], LineError>
-        ensures word { IsReadBy (λ w. w.now) result (word self.old.rest.now) }
+    pub fn word(&mut self) -> Result<&'a [u8], NotUnderstood>
+        ensures word { shown (result_ok result) ≡ word self.old.rest.now }
         ensures rest { self.new.rest.now ≡ after_word self.old.rest.now }
         ensures shorter { OnOk result (length self.new.rest.now < length self.old.rest.now) }
     {
-        self.next().ok_or(LineError::NotUnderstood)
+        self.next().ok_or(NotUnderstood)
     }
 
     // The next word, which has to be this one.
-    pub fn expect(&mut self, name: &[u8]) -> Result<(), LineError>
+    pub fn expect(&mut self, name: &[u8]) -> Result<(), NotUnderstood>
         ensures word { IsOk result ↔ (word self.old.rest.now ≡ Some name.now) }
-        ensures err { IsOkUnless result LineError.NotUnderstood }
         ensures rest { self.new.rest.now ≡ after_word self.old.rest.now }
         ensures shorter { OnOk result (length self.new.rest.now < length self.old.rest.now) }
     {
         if self.word()? == name {
             Ok(())
         } else {
-            Err(LineError::NotUnderstood)
+            Err(NotUnderstood)
         }
     }
 
     // No further word, which has to be so.
-    pub fn end(&mut self) -> Result<(), LineError>
+    pub fn end(&mut self) -> Result<(), NotUnderstood>
         ensures word { IsOk result ↔ (word self.old.rest.now ≡ None) }
-        ensures err { IsOkUnless result LineError.NotUnderstood }
         ensures rest { self.new.rest.now ≡ after_word self.old.rest.now }
     {
         match self.next() {
             None => Ok(()),
-            Some(_) => Err(LineError::NotUnderstood),
+            Some(_) => Err(NotUnderstood),
         }
     }
 
     // The next word as a number that the type holds.
-    pub fn number<T: TryFrom<u32>>(&mut self) -> Result<T, LineError>
+    pub fn number<T: TryFrom<u32>>(&mut self) -> Result<T, NotUnderstood>
     where
         T: Drop,
         T::Error: Drop,
-        ensures number { IsReadInto T.try_from_gives result (next_number self.old.rest.now) }
+        ensures number { IsReadInto T.try_from_gives (result_ok result) (next_number self.old.rest.now) }
         ensures rest { self.new.rest.now ≡ after_word self.old.rest.now }
         ensures shorter { OnOk result (length self.new.rest.now < length self.old.rest.now) }
     {
-        let number = decimal(self.word()?, u32::MAX).ok_or(LineError::NotUnderstood)?;
-        T::try_from(number).ok().ok_or(LineError::NotUnderstood)
+        let number = decimal(self.word()?, u32::MAX).ok_or(NotUnderstood)?;
+        T::try_from(number).ok().ok_or(NotUnderstood)
     }
 
     // The next four words as bytes.
-    pub fn four_bytes(&mut self) -> Result<[u8; 4], LineError>
-        ensures bytes { result ≡ ok_or (next_bytes 4 self.old.rest.now) LineError.NotUnderstood }
+    pub fn four_bytes(&mut self) -> Result<[u8; 4], NotUnderstood>
+        ensures bytes { result_ok result ≡ next_bytes 4 self.old.rest.now }
         ensures rest { self.new.rest.now ≡ after_bytes 4 self.old.rest.now }
         ensures shorter { OnOk result (length self.new.rest.now < length self.old.rest.now) }
     {
         Ok([self.byte()?, self.byte()?, self.byte()?, self.byte()?])
     }
 
-    fn byte(&mut self) -> Result<u8, LineError>
-        ensures byte { result ≡ ok_or (next_byte self.old.rest.now) LineError.NotUnderstood }
+    fn byte(&mut self) -> Result<u8, NotUnderstood>
+        ensures byte { result_ok result ≡ next_byte self.old.rest.now }
         ensures rest { self.new.rest.now ≡ after_word self.old.rest.now }
         ensures shorter { OnOk result (length self.new.rest.now < length self.old.rest.now) }
     {
@@ -155,7 +155,7 @@ impl<'a> Words<'a> {
 
     // The bytes that the next word writes in hexadecimal.
     pub fn bytes(&mut self, heap: Global) -> Result<Vec<u8>, LineError>
-        ensures bytes { IsReadByOrFails (λ v. v.items) result (option_and_then bytes_of (word self.old.rest.now)) }
+        ensures bytes { IsReadBy (λ v. v.items) result (option_and_then bytes_of (word self.old.rest.now)) }
         ensures rest { self.new.rest.now ≡ after_word self.old.rest.now }
         ensures shorter { OnOk result (length self.new.rest.now < length self.old.rest.now) }
     {
