@@ -3,7 +3,7 @@ use crate::listing::print_audit;
 use crate::noted::{Noted, Unmade};
 use crate::reading::Script;
 use belief::Belief;
-use cabinet::{Call, Folder, Return, session};
+use cabinet::{Call, Folder, Return, Threshold, session};
 use refusal::Refusal;
 use script::{LineError, NotUnderstood, Words};
 use std::alloc::Global;
@@ -107,7 +107,11 @@ fn read_enrol<B: Noted>(heap: Global, mut words: Words<'_>) -> Result<Line<B>, L
     let plan = B::plan(heap, &mut words)?;
     words.end()?;
     Ok(match B::made(&plan) {
-        Ok(belief) => Line::Enrol(Folder { code, n, d, belief }),
+        Ok(belief) => Line::Enrol(Folder {
+            code,
+            threshold: Threshold { n, d },
+            belief,
+        }),
         Err(unmade) => Line::Unmade { code, unmade },
     })
 }
@@ -130,8 +134,7 @@ fn read_look<B: Noted>(mut words: Words<'_>) -> Result<Line<B>, NotUnderstood> {
 fn serve_lines<B: Noted>(rt: &HostRuntime, head: &Head, lines: &[Line<B>]) -> io::Result<()> {
     let free = Folder {
         code: 0,
-        n: 0,
-        d: 0,
+        threshold: Threshold { n: 0, d: 0 },
         belief: B::default(),
     };
     let mut folders = vec![in rt.alloc(); free; head.places]?;
@@ -163,12 +166,7 @@ impl<B: Belief> Line<B> {
     // The call that the line makes, if it makes one.
     fn call(&self) -> Option<Call<'_, B>> {
         match self {
-            Line::Enrol(folder) => Some(Call::Enrol {
-                code: folder.code,
-                n: folder.n,
-                d: folder.d,
-                belief: folder.belief,
-            }),
+            Line::Enrol(folder) => Some(Call::Enrol(*folder)),
             Line::Ask { code, question } => Some(Call::Ask {
                 code: *code,
                 question,
@@ -209,7 +207,7 @@ fn print_return(rt: &HostRuntime, code: u16, returned: Return) -> io::Result<()>
         Return::Looked(Ok(view)) => {
             println!(rt;
                 "look {code}: total {}, peak {}, threshold {}/{}",
-                view.total, view.peak, view.n, view.d
+                view.total, view.peak, view.threshold.n, view.threshold.d
             )
         }
         Return::Looked(Err(refusal)) => println!(rt; "look {code}: {refusal}"),
