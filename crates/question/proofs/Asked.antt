@@ -1,7 +1,6 @@
 -- Bytes that are a question, as the walks over them want them.
-use Rattle.std.proofs.Common.{◌≡◌, ℕ, sym, ◌∙◌, true, false, List, [], IfOk, Ok, Err, Result, refl, ap, arith}
-use Rattle.refusal.specs.Replies.{Reply, given, declined, reply}
-use Rattle.refusal.specs.declared.list.Refusal.{Refusal}
+use Rattle.std.proofs.Common.{◌≡◌, ℕ, sym, ◌∙◌, true, false, List, [], refl, ap}
+use Rattle.refusal.specs.Replies.{Reply, given, declined}
 use Rattle.question.specs.declared.checked.Question.{Question}
 use Rattle.question.specs.Expressions.{Expression, mentions}
 use Rattle.question.specs.Reading.{reading}

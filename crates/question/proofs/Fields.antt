@@ -1,11 +1,9 @@
 -- The fields that stand among the commands are those of the expression.
-use Rattle.std.proofs.Common.{◌≡◌, ℕ, ◌≤◌, Bool, true, false, ◌||◌, eqb, List, [], ◌∷◌, ◌++◌, length, sym, refl, ap, ◌∙◌, inl, inr, append_assoc, eq-eqb}
+use Rattle.std.proofs.Common.{◌≡◌, ℕ, false, ◌||◌, eqb, List, [], ◌∷◌, ◌++◌, sym, refl, ap, ◌∙◌, append_assoc}
 use Rattle.std.proofs.Math.Bool.{or-false, or_assoc}
-use Rattle.std.proofs.lemmas.Bool.{ne_eqb}
 use Rattle.question.specs.Expressions.{index, Expression, field, number, two, nought, choose, written, sign, mentions}
 use Rattle.question.specs.Fronts.{scan}
-use Rattle.question.proofs.Operands.{sign_apart, head, tail, tail2, opened, opened2}
-use Rattle.question.proofs.Scan.{front_is}
+use Rattle.question.proofs.Operands.{sign_apart}
 
 scan_field : (k x : ℕ) (bs : List ℕ) → scan k (102 ∷ x ∷ bs) ≡ eqb x k || scan k bs
 scan_field k x [] = sym (or-false (eqb x k))

@@ -1,14 +1,12 @@
 -- The steps among the commands are those of the expression.
-use Rattle.std.proofs.Common.{◌≡◌, ℕ, zero, suc, pred, ◌+◌, ◌-◌, ◌*◌, ◌/◌, ◌%◌, ◌<◌, ◌≤◌, Bool, true, false, cond, ◌&&◌, ◌||◌, eqb, nat_le, List, [], ◌∷◌, ◌++◌, length, get_or, take, drop, is_some, Some, None, Option, sym, refl, ap, ◌∙◌, append_assoc, append-nil, arith, length-drop, take_all}
-use Rattle.std.proofs.lemmas.Bool.{ne_eqb}
+use Rattle.std.proofs.Common.{◌≡◌, ℕ, zero, suc, pred, ◌+◌, ◌-◌, ◌*◌, ◌/◌, ◌%◌, ◌<◌, Bool, true, false, cond, ◌&&◌, ◌||◌, eqb, nat_le, List, [], ◌∷◌, ◌++◌, length, get_or, take, drop, is_some, Some, None, Option, sym, refl, ap, ◌∙◌, append_assoc, append-nil, arith, length-drop, take_all}
 use Rattle.std.proofs.lemmas.Bool.Decides.{nat_tests}
 use Rattle.question.specs.declared.steps.Step.{Step}
 use Rattle.question.specs.Expressions.{Op, plus, minus, times, less, equal, and, or, Field, index, Expression, field, number, two, nought, choose, written, sign}
 use Rattle.question.specs.Steps.{step, number_step, less_step, two_step, simple, stepped, alone, steps}
 use Rattle.question.specs.Fronts.{front_step, prefixed, walk}
-use Rattle.question.proofs.Operands.{sign_apart, head, tail, tail2, tail_cons, opened2}
+use Rattle.question.proofs.Operands.{sign_apart}
 use Rattle.question.proofs.Stepping.{two_as, simple_as_step}
-use Rattle.question.proofs.Scan.{front_is}
 
 -- ---- some steps before others
 

@@ -1,5 +1,5 @@
 -- An expression that is a step is a field, a number and < before them.
-use Rattle.std.proofs.Common.{◌≡◌, ℕ, ◌+◌, ◌*◌, Some, None, refl, arith}
+use Rattle.std.proofs.Common.{◌≡◌, ℕ, ◌+◌, ◌*◌, Some, refl}
 use Rattle.question.specs.declared.steps.Step.{Step}
 use Rattle.question.specs.Expressions.{Op, plus, minus, times, less, equal, and, or, Field, index, Expression, field, number, two, nought, choose}
 use Rattle.question.specs.Steps.{number_step, less_step, two_step, simple}

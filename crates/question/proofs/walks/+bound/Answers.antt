@@ -1,5 +1,5 @@
 -- What `bound` leaves to show.
-use Rattle.std.proofs.Common.{◌≡◌, ◌+◌, ◌*◌, ◌<◌, ◌≤◌, max, length, get_or, sym, refl, ap, ◌∙◌, subst, arith, rules}
+use Rattle.std.proofs.Common.{◌≡◌, ◌+◌, ◌*◌, ◌<◌, ◌≤◌, length, get_or, sym, refl, ap, ◌∙◌, subst, arith, rules}
 use Rattle.question.specs.Expressions.{limit, limited}
 use Rattle.question.specs.Reading.{command}
 use Rattle.question.specs.Fronts.{Any, Each, Bounded, op_in, is_sign}

@@ -1,6 +1,5 @@
 -- What `gather` leaves to show.
-use Rattle.std.proofs.Common.{sym, ap, ◌∙◌, arith, rules}
-use Rattle.question.specs.Fronts.{prefixed}
+use Rattle.std.proofs.Common.{◌∙◌}
 use Rattle.question.specs.Texts.{taken}
 use Rattle.question.proofs.Gathered.{after_step}
 use Rattle.question.proofs.walks.+gather.Goals as goal

@@ -6,7 +6,7 @@ use Rattle.question.specs.Reading.{command}
 use Rattle.question.specs.Fronts.{Small, op_in, is_sign}
 use Rattle.question.proofs.Operands.{head, tail, fair, operand_one, operand_two, operand_two_2, operand_three, operand_three_2, operand_three_3}
 use Rattle.question.proofs.Scan.{signs, no_command}
-use Rattle.question.proofs.Values.{ranged, fits64, truth_bit, zero_bits, one_worth, two_worth, three_worth}
+use Rattle.question.proofs.Values.{ranged, truth_bit, zero_bits, one_worth, two_worth, three_worth}
 use Rattle.question.proofs.walks.+operand_value.Goals as goal
 
 pub value-unreachable-requires : goal.value-unreachable-requires

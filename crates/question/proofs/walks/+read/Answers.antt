@@ -1,9 +1,8 @@
 -- What `read` leaves to show.
-use Rattle.std.proofs.Common.{refl, ap, arith, rules}
-use Rattle.question.specs.Reading.{command}
+use Rattle.std.proofs.Common.{refl, rules}
 use Rattle.question.specs.Fronts.{Stuck}
-use Rattle.question.proofs.Operands.{head, tail, longer}
-use Rattle.question.proofs.Scan.{failed, Read, signed, signs, opens, opens_sign, one_last, two_first, two_last, three_first, three_second, three_last, field_reads, number_reads, shorter}
+use Rattle.question.proofs.Operands.{head, tail}
+use Rattle.question.proofs.Scan.{failed, Read, signed, opens, opens_sign, one_last, two_last, three_second, three_last, field_reads, number_reads}
 use Rattle.question.proofs.walks.+read.Goals as goal
 
 pub returns-in_err-read-in-63-2 : goal.returns-in_err-read-in-63-2

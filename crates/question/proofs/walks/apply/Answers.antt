@@ -1,8 +1,6 @@
 -- What `apply` leaves to show.
-use Rattle.std.proofs.Common.{◌≡◌, ◌≤◌, eqb, ℤ, pos, negsuc, ◌*ℤ◌, nat_abs, refl, arith, w64, SFits, of_z, rules}
+use Rattle.std.proofs.Common.{◌*ℤ◌, arith, w64}
 use Rattle.std.proofs.lemmas.Int.{to_z-of_z}
-use Rattle.std.proofs.lemmas.Bool.Decides.{nat_tests}
-use Rattle.question.specs.Expressions.{limit, same}
 use Rattle.question.proofs.Values.{fits64, times_fits}
 use Rattle.question.proofs.walks.apply.Goals as goal
 

@@ -1,5 +1,5 @@
 -- What `field_value` leaves to show.
-use Rattle.std.proofs.Common.{◌≡◌, ℕ, ◌<◌, ◌≤◌, length, get_or, pos, sym, refl, ap, subst, arith, w64, to_z, of_z, rules}
+use Rattle.std.proofs.Common.{◌≡◌, ◌<◌, length, get_or, pos, sym, refl, ap, subst, arith, w64, to_z, of_z, rules}
 use Rattle.std.proofs.lemmas.Int.{ints}
 use Rattle.question.specs.Fronts.{Each, Worth}
 use Rattle.question.proofs.Operands.{tail2, longer, fair, tail_at}

@@ -1,5 +1,5 @@
 -- What `bound` leaves to show.
-use Rattle.std.proofs.Common.{◌≡◌, ℕ, [], sym, ap, ◌∙◌, subst, arith}
+use Rattle.std.proofs.Common.{[], sym, ap, ◌∙◌, subst, arith}
 use Rattle.question.specs.Expressions.{bound}
 use Rattle.question.specs.Fronts.{Begins, Any}
 use Rattle.question.specs.Questions.{read_or, bound_of}

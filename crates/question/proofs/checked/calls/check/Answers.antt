@@ -3,7 +3,6 @@ use Rattle.std.proofs.Common.{◌≡◌, ◌+◌, ◌-◌, ◌<◌, ◌≤◌, [
 use Rattle.question.specs.Expressions.{longest}
 use Rattle.refusal.specs.Replies.{given, declined, mapped}
 use Rattle.question.specs.Fronts.{question}
-use Rattle.question.proofs.Scan.{shorter}
 use Rattle.question.proofs.Front.{reading_long, left_least, checks, left_over, goes_wrong}
 use Rattle.question.proofs.checked.calls.check.Goals as goal
 
