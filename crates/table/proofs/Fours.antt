@@ -1,11 +1,17 @@
 -- Places and sheets of four fields, as the code computes them.
-use Rattle.std.proofs.Common.{◌≡◌, ℕ, ◌+◌, ◌*◌, ◌<◌, ◌≤◌, min, Bool, true, false, ◌&&◌, nat_le, List, [], ◌∷◌, length, get_or, sym, refl, ap, ◌∙◌, inl, inr, add-zero, mul-le-mul_right, add-mul, one-mul, mul-one, arith, le-leb}
+use Rattle.std.proofs.Common.{◌≡◌, ℕ, ◌+◌, ◌*◌, ◌<◌, ◌≤◌, Bool, true, false, cond, ◌&&◌, nat_le, ltb, List, [], ◌∷◌, length, get_or, sym, refl, ap, ◌∙◌, inl, inr, add-zero, mul-le-mul_right, add-mul, one-mul, mul-one, arith, le-leb, ltb-true, ltb-false}
 use Rattle.std.proofs.lemmas.Bool.{cases_lt}
 use Rattle.belief.proofs.Fours.{four_of, fours}
 use Rattle.table.specs.Places.{size_of, place_of, fits_in}
-use Rattle.table.specs.Walks.{Stands}
+use Rattle.table.specs.Walks.{first_sheet, next_sheet}
 use Rattle.table.specs.Folds.{sheet_at}
 use Rattle.table.specs.Order.{fits_at, sheet_place}
+
+-- a sheet within the tops with so many sheets before it
+pub record Stands (tops s : List ℕ) (i : ℕ) : Type 0 where
+  pub four : length s ≡ 4
+  pub fits : fits_in tops s ≡ true
+  pub place : place_of tops s ≡ i
 
 pub size_four : (xs : List ℕ) → length xs ≡ 4 → (get_or xs 0 0 + 1) * ((get_or xs 1 0 + 1) * ((get_or xs 2 0 + 1) * (get_or xs 3 0 + 1))) ≡ size_of xs
 unfolding size_of
@@ -49,7 +55,7 @@ stands xs h v w x y i a b c d e =
     record { four = refl; fits = sym (fits_four xs (v ∷ w ∷ x ∷ y ∷ []) h refl) ∙ simp (a1, b1, c1, d1); place = sym (place_four xs (v ∷ w ∷ x ∷ y ∷ []) h refl) ∙ e }
 
 -- the first sheet
-pub stands_first : (xs : List ℕ) → length xs ≡ 4 → Stands xs (0 ∷ 0 ∷ 0 ∷ 0 ∷ []) 0
+pub stands_first : (xs : List ℕ) → length xs ≡ 4 → Stands xs first_sheet 0
 stands_first xs h = stands xs h 0 0 0 0 0 (omega arith) (omega arith) (omega arith) (omega arith) (omega arith)
 
 -- a sheet that stands at a place is the one there
@@ -101,9 +107,23 @@ module _ (xs ys : List ℕ) (i : ℕ) (h : length xs ≡ 4) (s : Stands xs ys i)
               let z = size_four xs h in let e = ends_1 in absurd (omega arith)
         ]
 
-        pub next_first : (v : ℕ) → v ≡ min (get_or ys 0 0 + 1) 255 → get_or xs 0 0 < 256 → Stands xs (v ∷ 0 ∷ 0 ∷ 0 ∷ []) (i + 1)
-        next_first v e b =
-            let f = first_below in
-            let q : v ≡ get_or ys 0 0 + 1 = omega arith in
-            let p : v * second xs ≡ i + 1 = ap (λ z. z * second xs) q ∙ ends_1 in
-            stands xs h v _ _ _ (i + 1) (omega arith) (omega arith) (omega arith) (omega arith) (omega arith)
+        pub next_first : Stands xs ((get_or ys 0 0 + 1) ∷ 0 ∷ 0 ∷ 0 ∷ []) (i + 1)
+        next_first =
+            let f = first_below in let e = ends_1 in
+            stands xs h _ _ _ _ (i + 1) (omega arith) (omega arith) (omega arith) (omega arith) (omega arith)
+
+-- the sheet after a sheet stands one place further
+pub next_stands : (xs ys : List ℕ) (i : ℕ) → length xs ≡ 4 → Stands xs ys i → i + 1 < size_of xs → Stands xs (next_sheet xs ys) (i + 1)
+unfolding next_sheet
+next_stands xs ys i h s room =
+    by (ltb (get_or ys 3 0) (get_or xs 3 0)) (ltb (get_or ys 2 0) (get_or xs 2 0)) (ltb (get_or ys 1 0) (get_or xs 1 0)) (ltb (get_or ys 0 0) (get_or xs 0 0)) refl refl refl refl
+  where
+    by : (a b c d : Bool) → ltb (get_or ys 3 0) (get_or xs 3 0) ≡ a → ltb (get_or ys 2 0) (get_or xs 2 0) ≡ b → ltb (get_or ys 1 0) (get_or xs 1 0) ≡ c → ltb (get_or ys 0 0) (get_or xs 0 0) ≡ d →
+        Stands xs (cond a (get_or ys 0 0 ∷ get_or ys 1 0 ∷ get_or ys 2 0 ∷ (get_or ys 3 0 + 1) ∷ []) (cond b (get_or ys 0 0 ∷ get_or ys 1 0 ∷ (get_or ys 2 0 + 1) ∷ 0 ∷ []) (
+        cond c (get_or ys 0 0 ∷ (get_or ys 1 0 + 1) ∷ 0 ∷ 0 ∷ []) (cond d ((get_or ys 0 0 + 1) ∷ 0 ∷ 0 ∷ 0 ∷ []) first_sheet)))) (i + 1)
+    by true b c d e3 e2 e1 e0 = next_last xs ys i h s (ltb-true _ _ e3)
+    by false true c d e3 e2 e1 e0 = next_third xs ys i h s (ltb-false _ _ e3) (ltb-true _ _ e2)
+    by false false true d e3 e2 e1 e0 = next_second xs ys i h s (ltb-false _ _ e3) (ltb-false _ _ e2) (ltb-true _ _ e1)
+    by false false false true e3 e2 e1 e0 = next_first xs ys i h s (ltb-false _ _ e3) (ltb-false _ _ e2) (ltb-false _ _ e1) room
+    by false false false false e3 e2 e1 e0 =
+        let l = first_below xs ys i h s (ltb-false _ _ e3) (ltb-false _ _ e2) (ltb-false _ _ e1) room in let g = ltb-false _ _ e0 in absurd (omega arith)

@@ -1,11 +1,14 @@
 -- A fold over all sheets is the fold over all places.
-use Rattle.std.specs.Prelude.{◌≡◌, ℕ, zero, suc, ◌+◌, ◌*◌, ◌/◌, ◌%◌, ◌<◌, max, Bool, true, false, List, [], ◌∷◌, ◌++◌, refl}
+use Rattle.std.specs.Prelude.{◌≡◌, ℕ, zero, suc, ◌+◌, ◌*◌, ◌/◌, ◌%◌, ◌<◌, max, Bool, true, false, ◌&&◌, List, [], ◌∷◌, ◌++◌, refl}
 use Rattle.std.proofs.Math.Path.{sym, ap}
-use Rattle.std.proofs.Common.{◌∙◌, append_assoc, arith, add-mul, add-zero, one-mul, add-suc, mod-eq_of_lt, add-one}
+use Rattle.std.proofs.Common.{◌∙◌, append_assoc, arith, add-mul, add-zero, zero-add, one-mul, add-suc, mod-eq_of_lt, add-one}
 use Rattle.std.proofs.Math.Nat.{mul-add-div_right, mul-add-mod_self_right, div-eq_of_lt}
-use Rattle.belief.specs.Sheets.{up_to, over_sheets, plus, both}
-use Rattle.belief.proofs.Sums.{up_to_cong}
-use Rattle.table.specs.Places.{size_of}
+use Rattle.std.specs.List.{sum, fold, list_all}
+use Rattle.std.proofs.lemmas.List.Sums.{fold-append, sum_by-append}
+use Rattle.std.proofs.lemmas.List.Folds.{list_all-append}
+use Rattle.belief.specs.Sheets.{up_to, over_sheets, plus, both, sum_of, max_of, all_of}
+use Rattle.belief.proofs.Sums.{up_to_cong, over_cong}
+use Rattle.table.specs.Places.{in_order, size_of}
 
 -- the sheet at a place
 unfoldable pub sheet_at : List ℕ → ℕ → List ℕ
@@ -63,26 +66,40 @@ module _ {A : Type 0} (op : A → A → A) (unit : A) (o : Folds op unit) where
   pub gathered : (ts : List ℕ) (f : List ℕ → A) (g : ℕ → A) (n : ℕ) (x : A) → x ≡ fold_below op unit n g → n ≡ size_of ts → ((i : ℕ) → i < size_of ts → g i ≡ f (sheet_at ts i)) → x ≡ over_sheets op ts f
   gathered ts f g n x e en h = e ∙ ap (λ z. fold_below op unit z g) en ∙ fold_cong op unit (size_of ts) g (λ i. f (sheet_at ts i)) h ∙ sym (flat ts f)
 
-pub max_folds : Folds max 0
-max_folds = record { left = λ x. omega arith; right = λ x. omega arith; assoc = λ x y z. omega arith }
-
-pub plus_folds : Folds plus 0
-plus_folds = record { left = λ x. omega arith; right = λ x. omega arith; assoc = λ x y z. omega arith }
-
-both_unit : (a : Bool) → both a true ≡ a
-both_unit true = refl
-both_unit false = refl
-
-both_assoc : (a b c : Bool) → both (both a b) c ≡ both a (both b c)
-both_assoc true b c = refl
-both_assoc false b c = refl
-
-pub both_folds : Folds both true
-both_folds = record { left = λ x. refl; right = both_unit; assoc = both_assoc }
-
 append_none : {A : Type 0} (xs : List A) → xs ++ [] ≡ xs
 append_none [] = refl
 append_none (x ∷ xs) = ap (λ z. x ∷ z) (append_none xs)
 
 pub append_folds : {A : Type 0} → Folds {A = List A} ◌++◌ []
 append_folds = record { left = λ xs. refl; right = append_none; assoc = append_assoc }
+
+-- ---- folds of the list of all values, in the order of the sheets
+
+-- what takes lists that are joined to what op makes of both takes the list of all to the fold over all sheets
+module _ {A B : Type 0} (op : B → B → B) (h : List A → B) (joins : (xs ys : List A) → h (xs ++ ys) ≡ op (h xs) (h ys)) where
+  up_to_listed : (n : ℕ) (f : ℕ → List A) → h (up_to ◌++◌ n f) ≡ up_to op n (λ v. h (f v))
+  up_to_listed zero f = refl
+  up_to_listed (suc n) f = joins (up_to ◌++◌ n f) (f (suc n)) ∙ ap (λ z. op z (h (f (suc n)))) (up_to_listed n f)
+
+  over_listed : (ts : List ℕ) (f : List ℕ → List A) → h (over_sheets ◌++◌ ts f) ≡ over_sheets op ts (λ s. h (f s))
+  over_listed [] f = refl
+  over_listed (t ∷ ts) f = up_to_listed t (λ v. over_sheets ◌++◌ ts (λ s. f (v ∷ s))) ∙ up_to_cong op t _ _ (λ v. over_listed ts (λ s. f (v ∷ s)))
+
+pub sum_in_order : (ts : List ℕ) (f : List ℕ → ℕ) → sum (in_order ts f) ≡ sum_of ts f
+sum_in_order ts f = over_listed plus sum (sum_by-append (λ x. x)) ts (λ s. f s ∷ []) ∙ over_cong plus ts _ _ (λ s. zero-add (f s))
+
+max_from : (a : ℕ) (xs : List ℕ) → fold max a xs ≡ max a (fold max 0 xs)
+max_from a [] = omega arith
+max_from a (x ∷ xs) = let i = max_from (max a x) xs in let j = max_from (max 0 x) xs in omega arith
+
+pub max_in_order : (ts : List ℕ) (f : List ℕ → ℕ) → fold max 0 (in_order ts f) ≡ max_of ts f
+max_in_order ts f =
+    over_listed max (fold max 0) (λ xs ys. fold-append max 0 xs ys ∙ max_from (fold max 0 xs) ys) ts (λ s. f s ∷ [])
+    ∙ over_cong max ts _ _ (λ s. omega arith)
+
+and_true : (b : Bool) → (b && true) ≡ b
+and_true true = refl
+and_true false = refl
+
+pub all_in_order : (p : ℕ → Bool) (ts : List ℕ) (f : List ℕ → ℕ) → list_all p (in_order ts f) ≡ all_of ts (λ s. p (f s))
+all_in_order p ts f = over_listed both (list_all p) (list_all-append p) ts (λ s. f s ∷ []) ∙ over_cong both ts _ _ (λ s. and_true (p (f s)))

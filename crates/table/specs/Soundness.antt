@@ -1,12 +1,15 @@
 -- A sound table keeps the laws, and revising it revises its meaning.
-use Rattle.std.specs.Prelude.{◌≡◌, ℕ, zero, suc, ◌*◌, ◌^◌, ◌<◌, ◌≤◌, Bool, true, false, cond, ◌&&◌, nat_le, List, length, take, ◌==◌, slice_index}
+use Rattle.std.specs.Prelude.{◌≡◌, ℕ, ◌*◌, ◌^◌, ◌<◌, ◌≤◌, Bool, true, false, cond, ◌&&◌, nat_le, List, length, take, ◌==◌, slice_index}
 use Rattle.std.proofs.Math.Path.{refl, sym, ap}
 use Rattle.std.proofs.Common.{◌∙◌, arith, get_or-take, leb-true, eqb-true}
+use Rattle.std.specs.List.{sum}
+use Rattle.std.proofs.lemmas.List.Elements.{All-from_get_or}
+use Rattle.std.proofs.lemmas.List.Sums.{sum_by-le, get_or-le-sum_by}
 use Rattle.refusal.specs.Replies.{given}
 use Rattle.question.specs.Questions.{in_span, answers, reads_in}
 use Rattle.question.proofs.Questions.{and_left, and_right, below_at, answers_span, step_inside}
-use Rattle.belief.specs.Sheets.{sum_of, plus}
-use Rattle.belief.specs.Meaning.{Meaning, Laws, Agree, kept, total_of, mass_of, revised}
+use Rattle.belief.specs.Sheets.{sum_of}
+use Rattle.belief.specs.Meaning.{Meaning, Laws, kept, total_of, mass_of, revised}
 use Rattle.belief.proofs.Sums.{mass_total}
 use Rattle.belief.proofs.Revisings.{ext, same}
 use Rattle.belief.specs.Spans.{good_span, zero_outside, span_only, good_total}
@@ -15,9 +18,9 @@ use Rattle.table.specs.declared.held.Table.{Table}
 use Rattle.table.specs.Places.{size_of, place_of, fits_in}
 use Rattle.table.specs.Tables.{good_weight, good_weights, good_list, weight_in, shaped, tabled, meaning, table_made, Filled}
 use Rattle.table.specs.Walks.{Shaped, Kept}
-use Rattle.table.specs.Folds.{fold_below}
+use Rattle.table.specs.Folds.{sum_in_order}
 use Rattle.table.specs.Order.{size_pos, place_below, above_fits}
-use Rattle.table.specs.Weights.{Shape, shape_of, weight_le, summed, item_le, in_order_again}
+use Rattle.table.specs.Weights.{Shape, shape_of, weight_by, weight_none, weight_le, in_order_again}
 
 -- what sound says
 pub shaped_of : (f c : ℕ) (tops : List ℕ) (t : ℕ) → (shaped f c tops && good_total t) ≡ true → shaped f c tops ≡ true
@@ -37,16 +40,11 @@ shaped_is t e = record { is = shaped_of t.span.first t.span.count t.span.tops (s
 
 -- ---- the laws
 
-weight_agree : (f c : ℕ) (tops ws s t : List ℕ) → Agree f c s t → weight_in f c tops ws s ≡ weight_in f c tops ws t
-unfolding weight_in
-weight_agree f c tops ws s t h = ap (λ p. cond (fits_in tops p) (slice_index ws (place_of tops p)) 0) (span_agree f c s t h)
-
 weight_above : (f c : ℕ) (tops ws s : List ℕ) (k : ℕ) → Shape f c tops → in_span f c k ≡ true → slice_index tops k < slice_index s k → weight_in f c tops ws s ≡ 0
-unfolding weight_in
 weight_above f c tops ws s k p i h =
     let e = span_same f c s p.fits k i in
     let n : fits_in tops (span_only f c s) ≡ false = above_fits tops (span_only f c s) k (span_length f c s ∙ sym p.four) (omega arith) in
-    ap (λ b. cond b (slice_index ws (place_of tops (span_only f c s))) 0) n
+    weight_none f c tops ws s n
 
 pub table_laws : (f c : ℕ) (tops ws : List ℕ) → length tops ≡ 4 → (tabled f c tops ws).sound ≡ true → Laws (tabled f c tops ws)
 unfolding total_of
@@ -59,7 +57,7 @@ table_laws f c tops ws l e =
       fits = p.fits;
       four = l;
       outside = p.out;
-      local = weight_agree f c tops ws;
+      local = λ s t h. weight_by f c tops ws s t (span_agree f c s t h);
       above = λ s k i h. weight_above f c tops ws s k p i h;
       bounded = weight_le f c tops p ws;
       spans = λ q h. h;
@@ -130,11 +128,6 @@ good_at : (list : List ℕ) → good_weights list ≡ true → (i : ℕ) → i <
 unfolding good_weights
 good_at list e i h = let g = below_at (length list) (λ i. good_weight (slice_index list i)) i e h in (leb-true _ _ (and_left _ _ g), leb-true _ _ (and_right (nat_le 1 (slice_index list i)) _ g))
 
-fold_most : (n : ℕ) (g : ℕ → ℕ) → ((i : ℕ) → i < n → g i ≤ 65535) → fold_below plus 0 n g ≤ n * 65535
-unfolding fold_below
-fold_most zero g h = omega arith
-fold_most (suc n) g h = let r = fold_most n g (λ i k. h i (omega arith)) in let z = h n (omega arith) in omega arith
-
 -- the tests of a making, passed
 pub record Good (f c : ℕ) (tops list : List ℕ) : Type 0 where
   pub span : good_span f c ≡ true
@@ -160,12 +153,12 @@ module _ (f c : ℕ) (tops list : List ℕ) (g : Good f c tops list) where
 
   made_sound : (tabled f c tops list).sound ≡ true
   made_sound =
-      let t : fold_below plus 0 (size_of tops) (λ i. slice_index list i) ≡ sum_of tops (weight_in f c tops list) = summed f c tops shape list in
+      let t : sum_of tops (weight_in f c tops list) ≡ sum list = sym (sum_in_order tops (weight_in f c tops list)) ∙ ap sum (sym (in_order_again f c tops shape list long)) in
       let l = long in let z = size_pos tops in let k = shape.small in
       let w = good_at list (and_right (length list == size_of tops) (good_weights list) rest) in
-      let lo = item_le (size_of tops) (λ i. slice_index list i) 0 z in
+      let lo : slice_index list 0 ≤ sum list = get_or-le-sum_by (λ x. x) list 0 0 (omega arith) in
       let one : (1 ≤ slice_index list 0) × (slice_index list 0 ≤ 65535) = w 0 (omega arith) in
-      let hi = fold_most (size_of tops) (λ i. slice_index list i) (λ i h. (w i (omega arith)).1) in
+      let hi : sum list ≤ length list * 65535 = sum_by-le (λ x. x) 65535 list (All-from_get_or (λ x. x ≤ 65535) list 0 (λ i h. (w i h).1)) in
       sound_by (shaped f c tops) (sum_of tops (weight_in f c tops list)) is_shaped (omega arith) (omega arith)
 
   copied_at : (ws : List ℕ) → take (length list) ws ≡ list → (s : List ℕ) → weight_in f c tops ws s ≡ weight_in f c tops list s
@@ -185,7 +178,7 @@ module _ (f c : ℕ) (tops list : List ℕ) (g : Good f c tops list) where
       same _ _ refl refl refl w refl (ap (λ w. shaped f c tops && good_total (sum_of tops w)) w)
 
   pub made_filled : Filled list (tabled f c tops list)
-  made_filled = record { sound = made_sound; ordered = in_order_again f c tops shape list long }
+  made_filled = record { sound = made_sound; ordered = sym (in_order_again f c tops shape list long) }
 
   pub made_is : (m : Meaning) → m ≡ tabled f c tops list → given m ≡ table_made f c tops list
   made_is m e = let a = g.span in let b = g.zeros in let d = g.weights in ap (λ z. given z) e ∙ simp (a, b, d)

@@ -1,19 +1,19 @@
 -- What a table weighs, place by place.
-use Rattle.std.specs.Prelude.{◌≡◌, ℕ, zero, suc, ◌+◌, ◌<◌, ◌≤◌, Bool, true, false, cond, ◌&&◌, List, [], ◌∷◌, ◌++◌, length, take, ◌==◌, slice_index}
+use Rattle.std.specs.Prelude.{◌≡◌, ℕ, zero, suc, ◌+◌, ◌<◌, ◌≤◌, Bool, true, false, cond, ◌&&◌, List, [], ◌∷◌, ◌++◌, length, take, slice_index}
 use Rattle.std.proofs.Math.Path.{refl, sym}
-use Rattle.std.proofs.Common.{ap, ◌∙◌, leb-true, eqb-true, take-suc}
+use Rattle.std.proofs.Common.{ap, ◌∙◌, leb-true, take-suc}
 use native.Mathlib.Omega.{arith}
-use Rattle.std.proofs.lemmas.Bool.{eqb-false}
 use Rattle.std.proofs.lemmas.List.{take_all}
 use Rattle.question.specs.Questions.{in_span}
 use Rattle.question.proofs.Questions.{and_left, and_right}
-use Rattle.belief.specs.Sheets.{plus, sum_of}
+use Rattle.belief.specs.Sheets.{sum_of}
+use Rattle.belief.proofs.Sheets.{below_sum}
 use Rattle.belief.specs.Spans.{good_span, zero_outside, span_only}
-use Rattle.belief.proofs.Spanned.{span_some, span_last, span_length, span_kept, zero_at}
+use Rattle.belief.proofs.Spanned.{span_some, span_last, span_length, span_kept, span_agree, span_same, zero_at}
 use Rattle.table.specs.Places.{in_order, size_of, place_of, fits_in}
 use Rattle.table.specs.Tables.{weight_in, shaped}
-use Rattle.table.specs.Folds.{sheet_at, fold_below, gathered, plus_folds, append_folds}
-use Rattle.table.specs.Order.{place_sheet, sheet_fits, sheet_below, sheet_length, place_below}
+use Rattle.table.specs.Folds.{sheet_at, fold_below, gathered, append_folds}
+use Rattle.table.specs.Order.{fits_at, place_sheet, sheet_fits, sheet_below, sheet_length}
 
 -- what shaped says
 pub record Shape (f c : ℕ) (tops : List ℕ) : Type 0 where
@@ -35,15 +35,20 @@ unfolding fold_below
 listed zero xs h = refl
 listed (suc n) xs h = take-suc xs n 0 h ∙ ap (λ z. z ++ (slice_index xs n ∷ [])) (listed n xs (omega arith))
 
--- an item is at most the sum
-pub item_le : (n : ℕ) (g : ℕ → ℕ) (i : ℕ) → i < n → g i ≤ fold_below plus 0 n g
-unfolding fold_below
-item_le zero g i h = absurd (omega arith)
-item_le (suc n) g i h = last (λ k. item_le n g i k) (i == n) refl
-  where
-    last : (i < n → g i ≤ fold_below plus 0 n g) → (b : Bool) → (i == n) ≡ b → g i ≤ fold_below plus 0 n g + g n
-    last r true e = let z = ap g (eqb-true i n e) in omega arith
-    last r false e = let d = eqb-false i n e in let x = r (omega arith) in omega arith
+-- a weight looks at the values of the span alone, and is 0 where they do not fit
+pub weight_by : (f c : ℕ) (tops ws s t : List ℕ) → span_only f c s ≡ span_only f c t → weight_in f c tops ws s ≡ weight_in f c tops ws t
+unfolding weight_in
+weight_by f c tops ws s t e = ap (λ p. cond (fits_in tops p) (slice_index ws (place_of tops p)) 0) e
+
+pub weight_none : (f c : ℕ) (tops ws s : List ℕ) → fits_in tops (span_only f c s) ≡ false → weight_in f c tops ws s ≡ 0
+unfolding weight_in
+weight_none f c tops ws s e = ap (λ b. cond b (slice_index ws (place_of tops (span_only f c s))) 0) e
+
+-- the list of the values of all sheets, place by place
+pub in_order_is : (tops : List ℕ) (f : List ℕ → ℕ) (ys : List ℕ) → length ys ≡ size_of tops → ((i : ℕ) → i < size_of tops → slice_index ys i ≡ f (sheet_at tops i)) → ys ≡ in_order tops f
+in_order_is tops f ys l h =
+    gathered ◌++◌ [] append_folds tops (λ s. f s ∷ []) _ (length ys) ys
+    (sym (take_all (length ys) ys (omega arith)) ∙ listed (length ys) ys (omega arith)) l (λ i k. ap (λ w. w ∷ []) (h i k))
 
 module _ (f c : ℕ) (tops : List ℕ) (p : Shape f c tops) where
   span_sheet : (i : ℕ) → i < size_of tops → span_only f c (sheet_at tops i) ≡ sheet_at tops i
@@ -55,19 +60,19 @@ module _ (f c : ℕ) (tops : List ℕ) (p : Shape f c tops) where
     unfolding weight_in
     weight_at_place i h = simp (span_sheet i h, sheet_fits tops i h, place_sheet tops i h)
 
-    pub summed : fold_below plus 0 (size_of tops) (λ i. slice_index ws i) ≡ sum_of tops (weight_in f c tops ws)
-    summed = gathered plus 0 plus_folds tops (weight_in f c tops ws) _ (size_of tops) _ refl refl weight_at_place
+    pub in_order_again : length ws ≡ size_of tops → ws ≡ in_order tops (weight_in f c tops ws)
+    in_order_again l = in_order_is tops (weight_in f c tops ws) ws l weight_at_place
 
     -- each weight is at most their sum
     pub weight_le : (s : List ℕ) → weight_in f c tops ws s ≤ sum_of tops (weight_in f c tops ws)
-    unfolding weight_in
     weight_le s = by (fits_in tops (span_only f c s)) refl
       where
-        by : (b : Bool) → fits_in tops (span_only f c s) ≡ b → cond b (slice_index ws (place_of tops (span_only f c s))) 0 ≤ sum_of tops (weight_in f c tops ws)
-        by true e =
-            let i = item_le (size_of tops) (λ i. slice_index ws i) (place_of tops (span_only f c s)) (place_below tops (span_only f c s) (span_length f c s ∙ sym p.four) e) in
-            let t = summed in omega arith
-        by false e = omega arith
+        l : length (span_only f c s) ≡ length tops
+        l = span_length f c s ∙ sym p.four
 
-    pub in_order_again : length ws ≡ size_of tops → in_order tops (weight_in f c tops ws) ≡ ws
-    in_order_again l = sym (gathered ◌++◌ [] append_folds tops (λ s. weight_in f c tops ws s ∷ []) _ (length ws) ws (sym (take_all (length ws) ws (omega arith)) ∙ listed (length ws) ws (omega arith)) l (λ i h. ap (λ w. w ∷ []) (weight_at_place i h)))
+        by : (b : Bool) → fits_in tops (span_only f c s) ≡ b → weight_in f c tops ws s ≤ sum_of tops (weight_in f c tops ws)
+        by true e =
+            let a = span_agree f c s (span_only f c s) (span_same f c s p.fits) in
+            let same : weight_in f c tops ws s ≡ weight_in f c tops ws (span_only f c s) = weight_by f c tops ws _ _ a in
+            let b = below_sum tops (span_only f c s) l (fits_at tops (span_only f c s) l e) (weight_in f c tops ws) in omega arith
+        by false e = let z : weight_in f c tops ws s ≡ 0 = weight_none f c tops ws s e in omega arith

@@ -5,7 +5,6 @@ ghost use Rattle.table.specs.Soundness.{table_laws};
 
 use crate::held::{PLACES, Table};
 use crate::places::{fits_in, place_of};
-use crate::walks::greater;
 use belief::{Belief, good_total};
 use question::Question;
 use refusal::Refusal;

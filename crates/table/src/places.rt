@@ -1,7 +1,7 @@
 // The sheets of a table in their order.
-ghost use Rattle.std.specs.Prelude.{◌≡◌, ℕ, ◌+◌, ◌<◌};
+ghost use Rattle.std.specs.Prelude.{◌≡◌};
 ghost use Rattle.table.specs.Places.{size_of, place_of, fits_in};
-ghost use Rattle.table.specs.Walks.{Stands};
+ghost use Rattle.table.specs.Walks.{next_sheet};
 
 // How many sheets there are.
 pub fn size_of(tops: [u8; 4]) -> usize
@@ -32,11 +32,12 @@ pub fn fits_in(tops: [u8; 4], sheet: [u8; 4]) -> bool
     (v <= a) & ((w <= b) & ((x <= c) & (y <= d)))
 }
 
-// The sheet after a sheet.
+// The sheet after a sheet, and the first one after the last.
+#[tactic(auto, unfolding(crate::specs::Walks::next_sheet))]
 pub fn next(tops: [u8; 4], sheet: [u8; 4]) -> [u8; 4]
-    ensures { (i : ℕ) → Stands tops sheet i → i + 1 < size_of tops → Stands tops result (i + 1) }
+    ensures { result ≡ next_sheet tops sheet }
 {
-    let [_, b, c, d] = tops;
+    let [a, b, c, d] = tops;
     let [v, w, x, y] = sheet;
     if y < d {
         return [v, w, x, y + 1];
@@ -47,5 +48,8 @@ pub fn next(tops: [u8; 4], sheet: [u8; 4]) -> [u8; 4]
     if w < b {
         return [v, w + 1, 0, 0];
     }
-    [v.saturating_add(1), 0, 0, 0]
+    if v < a {
+        return [v + 1, 0, 0, 0];
+    }
+    [0; 4]
 }

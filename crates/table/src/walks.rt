@@ -1,13 +1,14 @@
 // The walks over the weights of a table, and over its sheets.
-ghost use Rattle.std.specs.Prelude.{◌≡◌, ◌≤◌, min, max, length, take, if◌then◌else◌, nat_eq};
+ghost use Rattle.std.specs.Prelude.{◌≡◌, ◌^◌, ◌<◌, ◌≤◌, min, length, take, sum, if◌then◌else◌, nat_eq};
 ghost use Rattle.refusal.specs.Replies.{reply, mapped};
 ghost use Rattle.question.specs.Questions.{answers};
 ghost use Rattle.question.specs.Texts.{text};
-ghost use Rattle.belief.specs.Meaning.{total_of, mass_of, heaviest_of};
+ghost use Rattle.belief.specs.Meaning.{kept, total_of, mass_of, heaviest_of};
 ghost use Rattle.belief.specs.Calls.{replied};
-ghost use Rattle.table.specs.Places.{size_of};
+ghost use Rattle.table.specs.Places.{in_order, size_of};
 ghost use Rattle.table.specs.Tables.{shaped, meaning};
-ghost use Rattle.table.specs.Walks.{Shaped, Kept};
+ghost use Rattle.std.specs.Iterator.{YieldsFirst, item_count};
+ghost use Rattle.table.specs.Walks.{Shaped, Kept, first_sheet, shares_from, shares_left};
 
 use crate::held::{PLACES, Table};
 use crate::places::{next, size_of};
@@ -33,6 +34,7 @@ impl Table {
     pub(crate) fn held(&self) -> &[u32]
         ensures are { result.now ≡ take (min (size_of self.now.span.tops) 1024) self.now.weights }
         ensures few { length result.now ≤ 1024 }
+        ensures ordered { Shaped self.now → result.now ≡ in_order self.now.span.tops (meaning self.now).weight }
     {
         &self.weights[0..self.places()]
     }
@@ -55,47 +57,55 @@ impl Table {
         Ok(question)
     }
 
+    // The weights of the sheets that give the answer, 0 for all others.
+    fn shares<'a>(&'a self, question: &'a Question, answer: u8) -> Shares<'a>
+        ensures ordered { Shaped self.now → shares_left result ≡ in_order self.now.span.tops (kept (text question.now) answer (meaning self.now).weight) }
+        ensures small { sum (shares_left result) < 2 ^ 64 }
+    {
+        let weights = self.held();
+        Shares {
+            question,
+            answer,
+            tops: self.span.tops,
+            sheet: [0; 4],
+            weights,
+        }
+    }
+
     // The sum of the weights of the sheets that give the answer.
     pub(crate) fn mass_of(&self, question: &Question, answer: u8) -> u64
         ensures { Shaped self.now → result ≡ mass_of (meaning self.now) (text question.now) answer }
     {
-        let mut sum = 0;
-        let mut sheet = [0; 4];
-        let held = self.held();
-        for w in held {
-            sum += share(question, answer, sheet, *w) as u64;
-            let after = next(self.span.tops, sheet);
-            sheet = after;
-        }
-        sum
+        self.shares(question, answer).sum()
     }
 
     // The greatest of those weights.
     pub(crate) fn heaviest_of(&self, question: &Question, answer: u8) -> u64
         ensures { Shaped self.now → result ≡ heaviest_of (meaning self.now) (text question.now) answer }
     {
-        let mut most = 0;
-        let mut sheet = [0; 4];
-        let held = self.held();
-        for w in held {
-            most = greater(most, share(question, answer, sheet, *w));
-            let after = next(self.span.tops, sheet);
-            sheet = after;
-        }
-        most
+        self.shares(question, answer).max().unwrap_or(0)
     }
 
     // Sets to 0 the weight of each sheet that does not give the answer.
     pub(crate) fn keep(&mut self, question: &Question, answer: u8)
         ensures { Kept (text question.now) answer self.old self.new }
     {
-        let mut sheet = [0; 4];
         let places = self.places();
-        for i in 0..places {
-            self.weights[i] = share(question, answer, sheet, self.weights[i]);
-            let after = next(self.span.tops, sheet);
-            sheet = after;
-        }
+        let mut weights = self.weights;
+        keep_shares(&mut weights[..places], question, answer, self.span.tops);
+        self.weights = weights;
+    }
+}
+
+// Sets to 0 the weight of each sheet that does not give an answer, from the first sheet on.
+fn keep_shares(weights: &mut [u32], question: &Question, answer: u8, tops: [u8; 4])
+    ensures { weights.new ≡ shares_from (text question.now) answer tops first_sheet weights.old }
+{
+    let mut sheet = [0; 4];
+    for w in weights.iter_mut() {
+        *w = share(question, answer, sheet, *w);
+        let after = next(tops, sheet);
+        sheet = after;
     }
 }
 
@@ -110,13 +120,28 @@ fn share(question: &Question, answer: u8, sheet: [u8; 4], weight: u32) -> u32
     }
 }
 
-// The greater of the greatest so far and a weight.
-pub fn greater(most: u64, weight: u32) -> u64
-    ensures { result ≡ max most weight }
-{
-    if most < weight as u64 {
-        weight as u64
-    } else {
-        most
+// The weights of the sheets that give an answer, 0 for all others, one sheet after another.
+#[derive(Drop)]
+struct Shares<'a> {
+    question: &'a Question,
+    answer: u8,
+    tops: [u8; 4],
+    sheet: [u8; 4],
+    weights: &'a [u32],
+}
+
+impl<'a> Iterator for Shares<'a> {
+    type Item = u64;
+
+    ghost next_gives = { YieldsFirst shares_left };
+
+    ghost remaining = { item_count shares_left };
+
+    fn next(&mut self) -> Option<u64> {
+        let (weight, others) = self.weights.split_first()?;
+        let share = share(self.question, self.answer, self.sheet, *weight);
+        self.sheet = next(self.tops, self.sheet);
+        self.weights = others;
+        Some(u64::from(share))
     }
 }

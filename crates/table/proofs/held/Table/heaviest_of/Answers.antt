@@ -1,23 +1,15 @@
--- One sheet more, and all.
-use Rattle.std.proofs.Common.{max, ◌∙◌, arith}
-use Rattle.table.specs.Folds.{fold_none, fold_more}
-use Rattle.table.proofs.Fours.{stands_first}
-use Rattle.table.proofs.Loops.{share_is, held_few, heaviest_walked}
+-- The greatest of the shares.
+use Rattle.std.proofs.Common.{max, refl, ap, ◌∙◌}
+use Rattle.std.specs.List.{fold}
+use Rattle.std.specs.Option.{unwrap_or}
+use Rattle.std.specs.Ordering.{max_by_ordering, nat_cmp}
+use Rattle.std.proofs.lemmas.Iterator.Consumers.{YieldsList-from_first, reduce_from_yields_List}
+use Rattle.table.specs.Walks.{shares_left}
+use Rattle.table.proofs.Loops.{greatest, heaviest_in_order}
+use Rattle.table.specs.Tables.{meaning}
 use Rattle.table.proofs.held.Table.heaviest_of.Goals as goal
-
-pub loop-w-init : goal.loop-w-init
-loop-w-init c = (fold_none max 0 _, λ h. stands_first c.args.self.now.span.tops c.args.self.now.four)
-
-pub loop-w-preserved : goal.loop-w-preserved
-loop-w-preserved c =
-    let t = c.args.self.now in
-    let us = c.held-held.result.now in
-    let i = c.loop-w.w-index in
-    let few = held_few t.span.tops t.weights us c.held-held.ensures.are in
-    let here = c.loop-w.invariant.1 (omega arith) in
-    (c.greater-most.ensures ∙ fold_more max 0 _ _ _ _ c.loop-w.invariant.0 (share_is _ t.span.tops us _ c.args.answer i _ t.four here c.share.ensures), λ h. c.next-after.ensures i here h)
 
 pub returns : goal.returns
 returns c = λ s.
-    heaviest_walked c.args.self.now s c.held-held.result.now c.loop-w.w-index
-    (record { held = c.held-held.ensures.are; all = omega (arith, c.loop-w-test.false, c.loop-w.auto.w-index-end) }) _ c.args.answer _ c.loop-w.invariant.0
+    let most = reduce_from_yields_List (λ p z. max_by_ordering (nat_cmp p z) p z) _ c.max.result c.max.ensures.ran (YieldsList-from_first (λ x. x) shares_left _ refl) in
+    c.unwrap_or.ensures ∙ ap (λ z. unwrap_or z 0) most ∙ greatest (shares_left c.shares.result) ∙ ap (fold max 0) (c.shares.ensures.ordered s) ∙ heaviest_in_order (meaning c.args.self.now) _ _
