@@ -35,11 +35,11 @@ module _ (f c : ℕ) (q : Question) (bs : List WeightedBox) where
     unfolding carried
     not_inside e = let s = some_stepped (text q) h in let r = sym e in simp (s, r)
 
-    module _ (a : ℕ) (xs : List Step) (ys : List WeightedBox) (n t : Tally) (ex : xs ≡ ts) (ey : ys ≡ bs) (en : n ≡ untallied q a) (et : t ≡ fold tallied n (cut_all xs ys)) where
+    module _ (a : ℕ) (xs : List Step) (ys : List WeightedBox) (n t : Tally) (ex : xs ≡ ts) (ey : ys ≡ bs) (en : n ≡ untallied (record { question = q; answer = a })) (et : t ≡ fold tallied n (cut_all xs ys)) where
       told : Tallied q a (cut_all (steps_of (text q)) bs) t
       told =
-          let e : t ≡ fold tallied (untallied q a) (cut_all (steps_of (text q)) bs)
-          = et ∙ ap (λ z. fold tallied z (cut_all xs ys)) en ∙ ap (λ z. fold tallied (untallied q a) (cut_all z ys)) (ex ∙ some_steps (text q) h) ∙ ap (λ z. fold tallied (untallied q a) (cut_all (steps_of (text q)) z)) ey in
+          let e : t ≡ fold tallied (untallied (record { question = q; answer = a })) (cut_all (steps_of (text q)) bs)
+          = et ∙ ap (λ z. fold tallied z (cut_all xs ys)) en ∙ ap (λ z. fold tallied (untallied (record { question = q; answer = a })) (cut_all z ys)) (ex ∙ some_steps (text q) h) ∙ ap (λ z. fold tallied (untallied (record { question = q; answer = a })) (cut_all (steps_of (text q)) z)) ey in
           rw e (tally_all q a (cut_all (steps_of (text q)) bs))
 
       few_is : all_below (suc greatest) (λ a. nat_le (get_or t.pieces a 0) most_boxes) ≡ all_below (suc greatest) (λ a. nat_le (length (revised_boxes (text q) a bs)) most_boxes)
@@ -55,11 +55,11 @@ module _ (f c : ℕ) (q : Question) (bs : List WeightedBox) where
       weighs = record { mass = told.mass; heaviest = told.heaviest }
 
     pub sifts : (a : ℕ) (xs : List Step) (ys : List WeightedBox) (l : BoxList) (s : Sieve) → xs ≡ ts → ys ≡ bs → l.len ≡ 0 → length l.boxes ≡ most_boxes →
-        s ≡ fold sifted (record { question = q; answer = a; kept = l }) (cut_all xs ys) → Holds s.kept (revised_boxes (text q) a bs)
+        s ≡ fold sifted (record { wanted = record { question = q; answer = a }; kept = l }) (cut_all xs ys) → Holds s.kept (revised_boxes (text q) a bs)
     unfolding revised_boxes
     sifts a xs ys l s ex ey el eb es =
         let ps = filter (gives (text q) a) (cut_all (steps_of (text q)) bs) in
         let e : s.kept ≡ fold put l ps
-        = ap (λ z. z.kept) (es ∙ ap (λ z. fold sifted (record { question = q; answer = a; kept = l }) (cut_all z ys)) (ex ∙ some_steps (text q) h)
-        ∙ ap (λ z. fold sifted (record { question = q; answer = a; kept = l }) (cut_all (steps_of (text q)) z)) ey ∙ sieve_all q a l (cut_all (steps_of (text q)) bs)) in
+        = ap (λ z. z.kept) (es ∙ ap (λ z. fold sifted (record { wanted = record { question = q; answer = a }; kept = l }) (cut_all z ys)) (ex ∙ some_steps (text q) h)
+        ∙ ap (λ z. fold sifted (record { wanted = record { question = q; answer = a }; kept = l }) (cut_all (steps_of (text q)) z)) ey ∙ sieve_all q a l (cut_all (steps_of (text q)) bs)) in
         puts_hold s.kept l ps e el eb

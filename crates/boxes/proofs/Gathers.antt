@@ -55,13 +55,13 @@ puts_hold k l ps e n m = record {
 -- ---- a sieve
 
 pub sieve_all : (q : Question) (a : ℕ) (l : BoxList) (ps : List WeightedBox) →
-    fold sifted (record { question = q; answer = a; kept = l }) ps ≡ record { question = q; answer = a; kept = fold put l (filter (gives (text q) a) ps) }
+    fold sifted (record { wanted = record { question = q; answer = a }; kept = l }) ps ≡ record { wanted = record { question = q; answer = a }; kept = fold put l (filter (gives (text q) a) ps) }
 unfolding sifted gives
 sieve_all q a l [] = refl
 sieve_all q a l (p ∷ ps) = go (eqb (answer_of (text q) p) a) (λ m. sieve_all q a m ps)
   where
-    go : (c : Bool) → ((m : BoxList) → fold sifted (record { question = q; answer = a; kept = m }) ps ≡ record { question = q; answer = a; kept = fold put m (filter (gives (text q) a) ps) }) →
-        fold sifted (record { question = q; answer = a; kept = cond c (put l p) l }) ps ≡ record { question = q; answer = a; kept = fold put l (cond c (p ∷ filter (gives (text q) a) ps) (filter (gives (text q) a) ps)) }
+    go : (c : Bool) → ((m : BoxList) → fold sifted (record { wanted = record { question = q; answer = a }; kept = m }) ps ≡ record { wanted = record { question = q; answer = a }; kept = fold put m (filter (gives (text q) a) ps) }) →
+        fold sifted (record { wanted = record { question = q; answer = a }; kept = cond c (put l p) l }) ps ≡ record { wanted = record { question = q; answer = a }; kept = fold put l (cond c (p ∷ filter (gives (text q) a) ps) (filter (gives (text q) a) ps)) }
     go true ih = ih (put l p)
     go false ih = ih l
 
@@ -85,7 +85,7 @@ counted_length ns x = length-set ns x _
 
 module _ (q : Question) (a : ℕ) where
   abbrev tally : List ℕ → ℕ → ℕ → Tally
-  tally ns m h = record { question = q; answer = a; pieces = ns; mass = m; heaviest = h }
+  tally ns m h = record { wanted = record { question = q; answer = a }; pieces = ns; mass = m; heaviest = h }
 
   count_step : (c : Bool) (n m k : ℕ) (xs : List WeightedBox) (p : WeightedBox) → n ≤ 255 → m ≡ cond c (min (n + 1) 255) n → k ≡ min (m + length xs) 255 → k ≡ min (n + length (cond c (p ∷ xs) xs)) 255
   count_step true n m k xs p h e f = omega arith
@@ -142,7 +142,7 @@ module _ (q : Question) (a : ℕ) where
     pub mass : t.mass ≡ capped (total_in (filter (gives (text q) a) ps))
     pub heaviest : t.heaviest ≡ peak_in (filter (gives (text q) a) ps)
 
-  pub tally_all : (ps : List WeightedBox) → Tallied ps (fold tallied (untallied q a) ps)
+  pub tally_all : (ps : List WeightedBox) → Tallied ps (fold tallied (untallied (record { question = q; answer = a })) ps)
   tally_all ps = record {
     count = λ j h.
         let z : ◌≡◌ {A = ℕ} (get_or (replicate (suc greatest) 0) j 0) 0 = get_or-replicate (suc greatest) j 0 0 (omega arith) in

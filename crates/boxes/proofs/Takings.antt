@@ -24,21 +24,18 @@ put_full l b bs n h e f =
     let c : cond (ltb l.len most_boxes) (set l.boxes l.len b) l.boxes ≡ l.boxes = ap (λ z. cond z (set l.boxes l.len b) l.boxes) (le-ltb _ _ h) in
     λ i. record { boxes = (e ∙ sym c) i; len = f i }
 
-module _ (q : Question) (p : WeightedBox) (s : List ℕ) (x : ℕ) (at : s ≡ corner p.sides) (is : x ≡ answers (text q) s) where
-  given : x ≡ answer_of (text q) p
-  given = is ∙ ap (answers (text q)) at
-
+module _ (q : Question) (p : WeightedBox) (x : ℕ) (given : x ≡ answer_of (text q) p) where
   yes : (a : ℕ) → x ≡ a → eqb (answer_of (text q) p) a ≡ true
   yes a e = eq-eqb _ _ (sym given ∙ e)
 
   no : (a : ℕ) → (x ≢ a) → eqb (answer_of (text q) p) a ≡ false
   no a d = ne_eqb _ _ (λ e. d (given ∙ e))
 
-  pub sift_yes : (a : ℕ) (l m : BoxList) → x ≡ a → m ≡ put l p → record { question = q; answer = a; kept = m } ≡ sifted (record { question = q; answer = a; kept = l }) p
+  pub sift_yes : (a : ℕ) (l m : BoxList) → x ≡ a → m ≡ put l p → record { wanted = record { question = q; answer = a }; kept = m } ≡ sifted (record { wanted = record { question = q; answer = a }; kept = l }) p
   unfolding sifted
   sift_yes a l m e f = let y = yes a e in simp (y, f)
 
-  pub sift_no : (a : ℕ) (l : BoxList) → (x ≢ a) → record { question = q; answer = a; kept = l } ≡ sifted (record { question = q; answer = a; kept = l }) p
+  pub sift_no : (a : ℕ) (l : BoxList) → (x ≢ a) → record { wanted = record { question = q; answer = a }; kept = l } ≡ sifted (record { wanted = record { question = q; answer = a }; kept = l }) p
   unfolding sifted
   sift_no a l d = let n = no a d in simp n
 
@@ -48,11 +45,11 @@ module _ (q : Question) (p : WeightedBox) (s : List ℕ) (x : ℕ) (at : s ≡ c
     count_is = ap (set ns i) one ∙ ap (λ z. set ns z (min (get_or ns z 0 + 1) 255)) (at_x ∙ given)
 
     pub tally_yes : (v k j : ℕ) → x ≡ a → v ≡ capped (volume p.sides * p.weight) → k ≡ capped (m + v) → j ≡ max h p.weight →
-        record { question = q; answer = a; pieces = set ns i n; mass = k; heaviest = j } ≡ tallied (record { question = q; answer = a; pieces = ns; mass = m; heaviest = h }) p
+        record { wanted = record { question = q; answer = a }; pieces = set ns i n; mass = k; heaviest = j } ≡ tallied (record { wanted = record { question = q; answer = a }; pieces = ns; mass = m; heaviest = h }) p
     unfolding tallied
     tally_yes v k j e f g l = let y = yes a e in let c = count_is in simp (y, c, g, f, l)
 
-    pub tally_no : (x ≢ a) → record { question = q; answer = a; pieces = set ns i n; mass = m; heaviest = h } ≡ tallied (record { question = q; answer = a; pieces = ns; mass = m; heaviest = h }) p
+    pub tally_no : (x ≢ a) → record { wanted = record { question = q; answer = a }; pieces = set ns i n; mass = m; heaviest = h } ≡ tallied (record { wanted = record { question = q; answer = a }; pieces = ns; mass = m; heaviest = h }) p
     unfolding tallied
     tally_no d = let y = no a d in let c = count_is in simp (y, c)
 

@@ -1,6 +1,5 @@
 -- What is done with the pieces of boxes as they come. Assumes nothing.
 use Rattle.std.specs.Prelude.{◌≡◌, ℕ, suc, ◌+◌, ◌-◌, ◌*◌, ◌^◌, ◌≤◌, min, max, cond, List, length, take, replicate, ◌==◌, nat_lt, slice_index, slice_set}
-use Rattle.question.specs.declared.checked.Question.{Question}
 use Rattle.question.specs.Expressions.{greatest}
 use Rattle.question.specs.Questions.{answers}
 use Rattle.question.specs.Texts.{text}
@@ -8,6 +7,7 @@ use Rattle.ranges.specs.declared.shapes.Side.{Side}
 use Rattle.ranges.specs.declared.shapes.WeightedBox.{WeightedBox}
 use Rattle.ranges.specs.Boxes.{inside, volume, corner, total_in, peak_in}
 use Rattle.boxes.specs.declared.lists.BoxList.{BoxList}
+use Rattle.boxes.specs.declared.takers.Wanted.{Wanted}
 use Rattle.boxes.specs.declared.takers.Tally.{Tally}
 use Rattle.boxes.specs.declared.takers.Sieve.{Sieve}
 use Rattle.boxes.specs.declared.takers.Press.{Press}
@@ -35,24 +35,22 @@ answer_of q p = answers q (corner p.sides)
 unfoldable pub counted : List ℕ → ℕ → List ℕ
 counted ns a = slice_set ns a (min (slice_index ns a + 1) 255)
 
-abbrev pub untallied : Question → ℕ → Tally
-untallied question answer = record { question = question; answer = answer; pieces = replicate (suc greatest) 0; mass = 0; heaviest = 0 }
+abbrev pub untallied : Wanted → Tally
+untallied wanted = record { wanted = wanted; pieces = replicate (suc greatest) 0; mass = 0; heaviest = 0 }
 
 unfoldable pub tallied : Tally → WeightedBox → Tally
 tallied t p = record {
-  question = t.question;
-  answer = t.answer;
-  pieces = counted t.pieces (answer_of (text t.question) p);
-  mass = cond (answer_of (text t.question) p == t.answer) (capped (t.mass + capped (volume p.sides * p.weight))) t.mass;
-  heaviest = cond (answer_of (text t.question) p == t.answer) (max t.heaviest p.weight) t.heaviest;
+  wanted = t.wanted;
+  pieces = counted t.pieces (answer_of (text t.wanted.question) p);
+  mass = cond (answer_of (text t.wanted.question) p == t.wanted.answer) (capped (t.mass + capped (volume p.sides * p.weight))) t.mass;
+  heaviest = cond (answer_of (text t.wanted.question) p == t.wanted.answer) (max t.heaviest p.weight) t.heaviest;
 }
 
 -- one piece more is kept if it gives the answer
 unfoldable pub sifted : Sieve → WeightedBox → Sieve
 sifted s p = record {
-  question = s.question;
-  answer = s.answer;
-  kept = cond (answer_of (text s.question) p == s.answer) (put s.kept p) s.kept;
+  wanted = s.wanted;
+  kept = cond (answer_of (text s.wanted.question) p == s.wanted.answer) (put s.kept p) s.kept;
 }
 
 -- one piece more is kept, its weight multiplied inside the box

@@ -8,21 +8,26 @@ pub(crate) mod calls;
 // How many answers there are.
 pub(crate) const ANSWERS: usize = GREATEST as usize + 1;
 
-// How many pieces give each answer (255 if more do), and what those that give one answer weigh.
+// A question, and the answer to it that is wanted.
 #[derive(Clone, Copy)]
-pub(crate) struct Tally {
+pub(crate) struct Wanted {
     pub(crate) question: Question,
     pub(crate) answer: u8,
+}
+
+// How many pieces give each answer (255 if more do), and what those that give the wanted answer weigh.
+#[derive(Clone, Copy)]
+pub(crate) struct Tally {
+    pub(crate) wanted: Wanted,
     pub(crate) pieces: [u8; ANSWERS],
     pub(crate) mass: u64,
     pub(crate) heaviest: u64,
 }
 
-// The pieces that give one answer.
+// The pieces that give the wanted answer.
 #[derive(Clone, Copy)]
 pub(crate) struct Sieve {
-    pub(crate) question: Question,
-    pub(crate) answer: u8,
+    pub(crate) wanted: Wanted,
     pub(crate) kept: BoxList,
 }
 

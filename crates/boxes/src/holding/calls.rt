@@ -15,7 +15,7 @@ use crate::holding::Boxes;
 use crate::lists::BoxList;
 use crate::measures::{entire_of, volume_of};
 use crate::sums::{all_apart, all_fit, total_of};
-use crate::takers::{Sieve, Tally};
+use crate::takers::{Sieve, Tally, Wanted};
 use belief::good_total;
 use question::Question;
 use ranges::WeightedBox;
@@ -46,15 +46,15 @@ impl Boxes {
     }
 
     // What the pieces under a question come to, if it is carried.
-    pub(crate) fn tally(&self, question: Question, answer: u8) -> Option<Tally>
-        ensures carries { is_some result ≡ carried self.now.span.first self.now.span.count (held self.now) (text question) }
-        ensures weighs { IfSome result (λ t. Weighed t (revised_boxes (text question) answer (held self.now))) }
+    pub(crate) fn tally(&self, wanted: Wanted) -> Option<Tally>
+        ensures carries { is_some result ≡ carried self.now.span.first self.now.span.count (held self.now) (text wanted.question) }
+        ensures weighs { IfSome result (λ t. Weighed t (revised_boxes (text wanted.question) wanted.answer (held self.now))) }
     {
-        let steps = question.steps()?;
-        if !question.reads_in(self.span.first, self.span.count) {
+        let steps = wanted.question.steps()?;
+        if !wanted.question.reads_in(self.span.first, self.span.count) {
             return None;
         }
-        let mut tally = Tally::new(question, answer);
+        let mut tally = Tally::new(wanted);
         hand_all(steps.as_slice(), self.held(), &mut tally);
         if !tally.is_few() {
             return None;
@@ -70,19 +70,19 @@ impl Boxes {
             mapped (λ t. t.heaviest) (reply result) ≡ replied (meaning self.now) question.now (heaviest_of (meaning self.now) question.now answer) }
     {
         let question = Question::read(question)?;
-        self.tally(question, answer).ok_or(Refusal::NotCarried)
+        let wanted = Wanted { question, answer };
+        self.tally(wanted).ok_or(Refusal::NotCarried)
     }
 
     // The pieces under a stepped question that give the answer.
-    pub(crate) fn sifted(&self, question: Question, answer: u8) -> BoxList
-        ensures { is_stepped (text question) ≡ true → Holds result (revised_boxes (text question) answer (held self.now)) }
+    pub(crate) fn sifted(&self, wanted: Wanted) -> BoxList
+        ensures { is_stepped (text wanted.question) ≡ true → Holds result (revised_boxes (text wanted.question) wanted.answer (held self.now)) }
     {
-        let Some(steps) = question.steps() else {
+        let Some(steps) = wanted.question.steps() else {
             return BoxList::none();
         };
         let mut sieve = Sieve {
-            question,
-            answer,
+            wanted,
             kept: BoxList::none(),
         };
         hand_all(steps.as_slice(), self.held(), &mut sieve);

@@ -6,6 +6,7 @@ ghost use Rattle.boxes.specs.Returns.{parts};
 
 use crate::holding::Boxes;
 use crate::sums::{peak_of, total_of, volumes_of, weight_of};
+use crate::takers::Wanted;
 use belief::Belief;
 use question::Question;
 use refusal::Refusal;
@@ -53,7 +54,11 @@ impl Belief for Boxes {
 
     fn carries(&self, question: &[u8]) -> Result<bool, Refusal> {
         let question = Question::read(question)?;
-        Ok(self.tally(question, 0).is_some())
+        let wanted = Wanted {
+            question,
+            answer: 0,
+        };
+        Ok(self.tally(wanted).is_some())
     }
 
     fn mass(&self, question: &[u8], answer: u8) -> Result<u64, Refusal> {
@@ -68,13 +73,14 @@ impl Belief for Boxes {
 
     fn revise(&mut self, question: &[u8], answer: u8) -> Result<(), Refusal> {
         let question = Question::read(question)?;
-        let Some(tally) = self.tally(question, answer) else {
+        let wanted = Wanted { question, answer };
+        let Some(tally) = self.tally(wanted) else {
             return Err(Refusal::NotCarried);
         };
         if tally.mass == 0 {
             return Err(Refusal::NoMass);
         }
-        self.kept = self.sifted(question, answer);
+        self.kept = self.sifted(wanted);
         Ok(())
     }
 }

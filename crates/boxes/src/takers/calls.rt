@@ -1,25 +1,34 @@
 // What each taker does with a piece.
-ghost use Rattle.std.specs.Prelude.{◌≡◌, suc, ◌*◌, if◌then◌else◌, ◌==◌, nat_le, slice_index};
+ghost use Rattle.std.specs.Prelude.{◌≡◌, ◌≤◌, suc, ◌*◌, if◌then◌else◌, ◌==◌, nat_le, slice_index};
 ghost use Rattle.question.specs.Expressions.{greatest};
 ghost use Rattle.question.specs.Questions.{all_below};
+ghost use Rattle.question.specs.Texts.{text};
 ghost use Rattle.boxes.specs.Holding.{most_boxes};
-ghost use Rattle.boxes.specs.Takers.{capped, untallied, tallied, sifted, pressed, capped_piece};
+ghost use Rattle.boxes.specs.Takers.{answer_of, untallied, tallied, sifted, pressed, capped_piece};
 
 use crate::lists::calls::may_keep;
 use crate::measures::{corner_of, is_inside, mass_of};
-use crate::takers::{ANSWERS, Press, Sieve, Tally};
+use crate::takers::{ANSWERS, Press, Sieve, Tally, Wanted};
 use crate::taking::Taker;
-use question::Question;
 use ranges::WeightedBox;
+
+impl Wanted {
+    // The answer that a piece gives.
+    fn given_by(&self, piece: WeightedBox) -> u8
+        ensures is { result ≡ answer_of (text self.now.question) piece }
+        ensures small { result ≤ greatest }
+    {
+        self.question.answer(corner_of(piece.sides))
+    }
+}
 
 impl Tally {
     // Nothing counted and weighed yet.
-    pub(crate) fn new(question: Question, answer: u8) -> Tally
-        ensures { result ≡ untallied question answer }
+    pub(crate) fn new(wanted: Wanted) -> Tally
+        ensures { result ≡ untallied wanted }
     {
         Tally {
-            question,
-            answer,
+            wanted,
             pieces: [0; ANSWERS],
             mass: 0,
             heaviest: 0,
@@ -38,10 +47,10 @@ impl Taker for Tally {
     ghost taken = { tallied };
 
     fn take(&mut self, piece: WeightedBox) {
-        let given = self.question.answer(corner_of(piece.sides));
+        let given = self.wanted.given_by(piece);
         let place = usize::from(given);
         self.pieces[place] = self.pieces[place].saturating_add(1);
-        if given == self.answer {
+        if given == self.wanted.answer {
             self.mass = self.mass.saturating_add(mass_of(piece));
             self.heaviest = self.heaviest.max(piece.weight);
         }
@@ -52,7 +61,7 @@ impl Taker for Sieve {
     ghost taken = { sifted };
 
     fn take(&mut self, piece: WeightedBox) {
-        if self.question.answer(corner_of(piece.sides)) == self.answer {
+        if self.wanted.given_by(piece) == self.wanted.answer {
             self.kept.push(piece);
         }
     }

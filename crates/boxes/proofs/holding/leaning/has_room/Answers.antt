@@ -1,9 +1,6 @@
 -- Boxes are few and light enough.
-use Rattle.boxes.proofs.Leans.{room_is, room_past}
+use Rattle.boxes.proofs.Leans.{room_is}
 use Rattle.boxes.proofs.holding.leaning.has_room.Goals as goal
-
-pub returns-then-not-may_keep-clause-is : goal.returns-then-not-may_keep-clause-is
-returns-then-not-may_keep-clause-is c = room_past c.args.list.now c.if-not-may_keep.ensures
 
 pub returns-clause-is : goal.returns-clause-is
 returns-clause-is c = room_is c.args.list.now _ c.if-not-may_keep.ensures c.total_of.ensures

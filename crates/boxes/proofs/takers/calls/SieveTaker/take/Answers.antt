@@ -2,12 +2,9 @@
 use Rattle.boxes.proofs.Takings.{sift_yes, sift_no}
 use Rattle.boxes.proofs.takers.calls.SieveTaker.take.Goals as goal
 
-pub returns-then-answer-self : goal.returns-then-answer-self
-returns-then-answer-self c =
-    let t = c.args.self.now in
-    sift_yes t.question c.args.piece _ _ c.corner_of.ensures c.answer.ensures t.answer t.kept _ c.if-answer-self.true c.push.ensures
+pub returns-then-given_by-self : goal.returns-then-given_by-self
+returns-then-given_by-self c =
+    let t = c.args.self.now in sift_yes t.wanted.question c.args.piece _ c.given_by.ensures.is t.wanted.answer t.kept _ c.if-given_by-self.true c.push.ensures
 
-pub returns-else-answer-self : goal.returns-else-answer-self
-returns-else-answer-self c =
-    let t = c.args.self.now in
-    sift_no t.question c.args.piece _ _ c.corner_of.ensures c.answer.ensures t.answer t.kept c.if-answer-self.false
+pub returns-else-given_by-self : goal.returns-else-given_by-self
+returns-else-given_by-self c = let t = c.args.self.now in sift_no t.wanted.question c.args.piece _ c.given_by.ensures.is t.wanted.answer t.kept c.if-given_by-self.false
