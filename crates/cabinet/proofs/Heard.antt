@@ -1,5 +1,5 @@
 -- The folders after one of them has heard an answer.
-use Rattle.std.proofs.Common.{◌≡◌, ℕ, suc, Bool, true, false, cond, eqb, List, [], ◌∷◌, map, get_or, set, Some, None, Ok, Err, Option, Result, refl, ap, ◌∙◌, arith}
+use Rattle.std.proofs.Common.{◌≡◌, ℕ, suc, Bool, true, false, cond, eqb, List, [], ◌∷◌, map, get_or, set, Some, None, Ok, Err, Option, Result, refl, ap, ◌∙◌}
 use Rattle.std.specs.Option.{option_map}
 use Rattle.refusal.specs.declared.list.Refusal.{Refusal}
 use Rattle.refusal.specs.Replies.{given, reply}

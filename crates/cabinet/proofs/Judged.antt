@@ -1,11 +1,8 @@
 -- One answer more is judged.
-use Rattle.std.proofs.Common.{◌≡◌, ℕ, zero, suc, ◌+◌, ◌≤◌, Bool, true, false, not, ◌&&◌, ◌||◌, eqb, ltb, List, [], refl, ◌∙◌, add-one, arith}
+use Rattle.std.proofs.Common.{◌≡◌, ℕ, zero, suc, ◌+◌, ◌≤◌, Bool, false, ◌&&◌, ◌||◌, eqb, ltb, List, refl, ◌∙◌, add-one, arith}
 use Rattle.std.proofs.lemmas.Bool.Decides.{nat_tests}
-use Rattle.refusal.specs.Replies.{Reply, given, declined, and_then, refuse_if}
-use Rattle.question.specs.Expressions.{Expression}
-use Rattle.question.specs.Reading.{reading}
+use Rattle.refusal.specs.Replies.{Reply, given}
 use Rattle.belief.specs.Meaning.{Meaning, mass_of, heaviest_of}
-use Rattle.belief.specs.Calls.{replied}
 use Rattle.belief.proofs.Sums.{heaviest_mass}
 use Rattle.history.specs.Judging.{some_below, exceeds, is_telling_at}
 

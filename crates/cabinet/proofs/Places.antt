@@ -1,8 +1,8 @@
 -- The folder of a code, by its place in the register.
-use Rattle.std.proofs.Common.{◌≡◌, ℕ, suc, ◌<◌, Bool, true, false, cond, ◌||◌, eqb, List, [], ◌∷◌, map, length, get_or, set, is_some, Some, None, Option, sym, refl, ap, ◌∙◌, arith}
+use Rattle.std.proofs.Common.{◌≡◌, ℕ, suc, ◌<◌, Bool, true, false, cond, eqb, List, [], ◌∷◌, map, length, get_or, set, is_some, Some, None, Option, sym, refl, ap, ◌∙◌}
 use Rattle.std.specs.Option.{option_map}
 use Rattle.std.proofs.lemmas.List.{get_or_default}
-use Rattle.std.proofs.lemmas.Bool.{and_parts, cond-false, ne_eqb}
+use Rattle.std.proofs.lemmas.Bool.{and_parts, cond-false}
 use Rattle.refusal.specs.declared.list.Refusal.TheVariants.{Code, Unfit}
 use Rattle.belief.specs.Meaning.{Meaning}
 use Rattle.history.specs.Judging.{fitting}

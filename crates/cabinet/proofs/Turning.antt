@@ -1,7 +1,7 @@
 -- One call more of a session: its event, the history with it, and the memory that it leaves.
-use Rattle.std.proofs.Common.{◌≡◌, ℕ, zero, suc, ◌+◌, ◌-◌, ◌<◌, ◌≤◌, Bool, true, false, min, ◌||◌, eqb, ltb, List, [], ◌∷◌, ◌++◌, map, length, get_or, take, drop, set, sym, refl, ap, ◌∙◌, subst, arith, length-take}
+use Rattle.std.proofs.Common.{◌≡◌, ℕ, zero, suc, ◌+◌, ◌-◌, ◌<◌, ◌≤◌, min, ◌||◌, eqb, ltb, List, [], ◌∷◌, ◌++◌, map, length, get_or, take, drop, set, sym, refl, ap, ◌∙◌, subst, arith, length-take}
 use Rattle.std.proofs.lemmas.List.{take_more, take_more_set, drop-set-lt, drop-drop}
-use Rattle.refusal.specs.Replies.{Reply, given, refuse_if}
+use Rattle.refusal.specs.Replies.{Reply, given}
 use Rattle.belief.specs.Meaning.{Meaning}
 use Rattle.history.specs.Events.{Setting, enrols, Past}
 use Rattle.cabinet.specs.declared.cabinets.Cabinet.{Cabinet}

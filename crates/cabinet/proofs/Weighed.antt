@@ -1,13 +1,12 @@
 -- What a question of a known folder is replied, and what follows from the reply.
-use Rattle.std.proofs.Common.{◌≡◌, ℕ, ◌+◌, ◌-◌, ◌≤◌, Bool, true, false, not, eqb, ltb, ◌⊎◌, List, [], length, Option, sym, refl, ap, ◌∙◌, inl, inr, arith}
+use Rattle.std.proofs.Common.{◌≡◌, ℕ, ◌+◌, ◌-◌, ◌≤◌, Bool, true, false, not, eqb, ltb, List, [], length, sym, refl, ap, ◌∙◌, arith}
 use Rattle.std.proofs.lemmas.Bool.{ltb-false}
 use Rattle.refusal.specs.Replies.{Reply, given, declined, and_then, refuse_if}
 use Rattle.question.specs.Expressions.{greatest, Expression}
 use Rattle.question.specs.Reading.{reading}
-use Rattle.question.specs.Questions.{answers}
 use Rattle.belief.specs.Meaning.{Meaning, mass_of}
 use Rattle.history.specs.Judging.{telling}
-use Rattle.audit.specs.Format.{asks, declines, encode, answered}
+use Rattle.audit.specs.Format.{asks}
 use Rattle.cabinet.specs.declared.cabinets.Cabinet.{Cabinet}
 use Rattle.cabinet.specs.declared.folders.Folder.{Folder}
 use Rattle.cabinet.specs.Memory.{State, state}

@@ -17,7 +17,7 @@ use question::Question;
 use refusal::Refusal;
 use register::Register;
 
-// How many bytes stand before the question in its entry.
+// How many bytes stand before the question in its entry, by the audit's format.
 const HEAD: usize = 5;
 
 impl Cabinet {

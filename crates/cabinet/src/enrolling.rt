@@ -13,7 +13,8 @@ use belief::Belief;
 use refusal::Refusal;
 use register::Register;
 
-// How many bytes the entry of an enrolment has.
+// How many bytes the entry of an enrolment has. The audit states lengths by its format alone, and the contract of `short` is
+// held against that.
 const ENROLMENT: usize = 8;
 
 impl Cabinet {

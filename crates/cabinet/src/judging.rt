@@ -12,8 +12,9 @@ use belief::Belief;
 use question::GREATEST;
 use refusal::Refusal;
 
-// Whether a question may be answered with this answer, the sheet's own: it is carried, the answer is possible, and no answer
-// to it is too telling. Once the answers looked at have all the weight, no further one is possible.
+// The answer, the sheet's own, if the question may be answered with it: it is carried, the answer is possible, and no answer
+// to it is too telling. Once the answers looked at have all the weight, no further one is possible. Both tests are kept up to
+// the end of one pass: an answer without mass is the earlier refusal, and to ask for its mass first would walk the belief twice.
 #[tactic(auto, using(crate::proofs::Left::from_first, crate::proofs::Left::from_next, crate::proofs::Judged::some_none), unfolding(history::specs::Judging::telling))]
 pub(crate) fn judge<B: Belief>(
     folder: &Folder<B>,
@@ -46,7 +47,7 @@ pub(crate) fn judge<B: Belief>(
 }
 
 // The mass of an answer to a question that is carried, and its heaviest sheet. Nothing is looked at where no weight is left
-// for it, and no heaviest sheet is sought where the mass is 0.
+// for it, and no heaviest sheet is sought where the mass is 0. A pair, since its one caller takes it apart at once.
 #[tactic(auto, using(belief::proofs::Sums::heaviest_mass))]
 fn weighed<B: Belief>(
     belief: &B,

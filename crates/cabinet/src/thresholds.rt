@@ -9,7 +9,7 @@ pub struct Threshold {
 }
 
 impl Threshold {
-    // Whether it is at least 1 / 65535 and at most 1.
+    // Whether it is one: n is at least 1, and d at least n.
     pub(crate) fn is_sound(self) -> bool
         ensures { result ≡ threshold self.n self.d }
     {

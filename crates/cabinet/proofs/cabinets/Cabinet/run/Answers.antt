@@ -1,4 +1,4 @@
-use Rattle.std.proofs.Common.{◌≡◌, ◌<◌, ◌≤◌, min, [], length, ap, ◌∙◌, subst, arith}
+use Rattle.std.proofs.Common.{◌≡◌, ◌<◌, ◌≤◌, min, [], length, ◌∙◌, subst, arith}
 use Rattle.history.specs.Events.{Past}
 use Rattle.cabinet.specs.Memory.{state, understood}
 use Rattle.cabinet.specs.Standing.{Stands}
