@@ -1,6 +1,7 @@
 -- Four sides, and four bytes, one by one.
-use Rattle.std.specs.Prelude.{◌≡◌, ℕ, zero, suc, ◌+◌, ◌*◌, ◌^◌, ◌<◌, ◌≤◌, Bool, true, false, ◌&&◌, ◌||◌, List, [], ◌∷◌, length, nat_le, nat_lt, slice_index, slice_index_or, slice_set, refl}
+use Rattle.std.specs.Prelude.{◌≡◌, ℕ, zero, suc, ◌+◌, ◌*◌, ◌^◌, ◌<◌, ◌≤◌, false, ◌&&◌, ◌||◌, List, [], ◌∷◌, length, nat_le, nat_lt, slice_index, slice_index_or, slice_set, refl}
 use Rattle.std.specs.List.{list_all, list_any, zip}
+use Rattle.std.proofs.Math.Bool.{and_assoc}
 use Rattle.std.proofs.Common.{sym, ap, ◌∙◌, arith, mul-one, mul-le-mul}
 use Rattle.ranges.specs.declared.shapes.Side.{Side}
 use Rattle.question.specs.declared.steps.Step.{Step}
@@ -44,10 +45,6 @@ unfolding between
 four_between ls hs h k = by_fours between 0 0 ls hs h k
 
 -- ---- two boxes, or a box and four bytes, pair by pair
-
-and_assoc : (a b c : Bool) → ((a && b) && c) ≡ (a && (b && c))
-and_assoc true b c = refl
-and_assoc false b c = refl
 
 pub inside_pairs : (xs : List Side) (s : List ℕ) → length xs ≡ length s → list_all (λ p. nat_le p.0.low p.1 && nat_le p.1 p.0.high) (zip xs s) ≡ inside xs s
 unfolding inside within
@@ -110,13 +107,7 @@ part_at g (x ∷ xs) (suc k) = ap (λ z. x ∷ z) (part_at g xs k)
 two : (a b : ℕ) → a ≤ 256 → b ≤ 256 → a * b ≤ 65536
 two a b h k = mul-le-mul {n₁ = a} {m₁ = b} {n₂ = 256} {m₂ = 256} h k
 
-pub record Products (a b c d : ℕ) : Type 0 where
-  pub second : c * d ≤ 65536
-  pub third : b * (c * d) ≤ 16777216
-  pub fourth : a * (b * (c * d)) ≤ 2 ^ 32
-
-pub products : (a b c d : ℕ) → a ≤ 256 → b ≤ 256 → c ≤ 256 → d ≤ 256 → Products a b c d
+pub products : (a b c d : ℕ) → a ≤ 256 → b ≤ 256 → c ≤ 256 → d ≤ 256 → a * (b * (c * d)) ≤ 2 ^ 32
 products a b c d h k l m =
     let x = two c d l m in
-    let y = mul-le-mul {n₁ = b} {m₁ = c * d} {n₂ = 256} {m₂ = 65536} k x in
-    record { second = x; third = y; fourth = mul-le-mul {n₁ = a} {m₁ = b * (c * d)} {n₂ = 256} {m₂ = 16777216} h y }
+    let y = mul-le-mul {n₁ = b} {m₁ = c * d} {n₂ = 256} {m₂ = 65536} k x in mul-le-mul {n₁ = a} {m₁ = b * (c * d)} {n₂ = 256} {m₂ = 16777216} h y

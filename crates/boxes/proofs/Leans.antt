@@ -58,9 +58,6 @@ room_is l n h e = let z = sym h in rw z (test (total_in (take l.len l.boxes)) e)
     test : (m : ℕ) → n ≡ capped m → nat_le n most_total ≡ nat_le m most_total
     test m e = grind (arith, nat_tests)
 
-pub room_past : (l : BoxList) → false ≡ nat_le l.len most_boxes → false ≡ (nat_le l.len most_boxes && nat_le (total_in (listed l)) most_total)
-room_past l h = let z = sym h in simp z
-
 module _ (b : Boxes) (ls hs : List ℕ) (f : ℕ) where
   pub lean_value : good_edges b.span.first b.span.count b.span.tops ls hs ≡ false → ◌≡◌ {A = Reply (Unit {0})} (declined 2 None) (leaning b ls hs f)
   unfolding leaning

@@ -1,5 +1,5 @@
 pub mod Fours
-pub mod Loops
+pub mod Chains
 pub mod Handing
 pub mod Takings
 pub mod Gathers

@@ -1,7 +1,6 @@
 -- What takers make of one piece, and of many.
 use Rattle.std.proofs.Common.{◌≡◌, ℕ, ◌+◌, ◌*◌, ◌<◌, ◌≤◌, min, max, true, false, cond, eqb, ltb, List, get_or, set, sym, ap, ◌∙◌, le-ltb, lt-ltb, eq-eqb, ne_eqb, ◌≢◌}
 use Rattle.question.specs.declared.checked.Question.{Question}
-use Rattle.question.specs.Questions.{answers}
 use Rattle.question.specs.Texts.{text}
 use Rattle.ranges.specs.declared.shapes.Side.{Side}
 use Rattle.ranges.specs.declared.shapes.WeightedBox.{WeightedBox}

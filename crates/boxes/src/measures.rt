@@ -1,6 +1,7 @@
 // What one box measures, and how it lies to a sheet, to tops and to another box.
-ghost use Rattle.std.specs.Prelude.{◌≡◌, ◌*◌, ◌^◌, ◌≤◌, ◌&&◌, ◌||◌, nat_le, nat_lt};
-ghost use Rattle.ranges.specs.Boxes.{within, inside, fits, width, volume, corner, entire, apart};
+// Kept as functions over bare sides: both types stand in crate ranges, which has no code, and the box leaned on has no weight.
+ghost use Rattle.std.specs.Prelude.{◌≡◌, ◌*◌, ◌^◌, ◌≤◌};
+ghost use Rattle.ranges.specs.Boxes.{inside, fits, width, volume, corner, entire, apart};
 ghost use Rattle.boxes.specs.Takers.{capped};
 ghost use Rattle.boxes.specs.Holding.{between};
 

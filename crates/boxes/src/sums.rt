@@ -1,6 +1,6 @@
 // What many boxes come to.
-ghost use Rattle.std.specs.Prelude.{◌≡◌, true, ◌&&◌, nat_le};
-ghost use Rattle.ranges.specs.Boxes.{weight_at, fits, volume_in, total_in, peak_in, fit_all, apart_all, disjoint};
+ghost use Rattle.std.specs.Prelude.{◌≡◌, true};
+ghost use Rattle.ranges.specs.Boxes.{weight_at, volume_in, total_in, peak_in, fit_all, apart_all, disjoint};
 ghost use Rattle.boxes.specs.Takers.{capped};
 
 use crate::measures::{box_fits, boxes_apart, is_inside, mass_of, volume_of};

@@ -4,6 +4,7 @@ ghost use Rattle.ranges.specs.declared.shapes.WeightedBox.{WeightedBox};
 
 use ranges::WeightedBox;
 
+// Kept as a trait: its ghost member is the step of a fold, where a closure's contract would speak of a chain of calls instead.
 pub(crate) trait Taker {
     ghost taken: { Self → WeightedBox → Self };
 

@@ -1,5 +1,5 @@
 // What boxes make of a question.
-ghost use Rattle.std.specs.Prelude.{◌≡◌, ◌^◌, ◌≤◌, true, ◌&&◌, is_some, IfSome};
+ghost use Rattle.std.specs.Prelude.{◌≡◌, ◌^◌, ◌≤◌, true, is_some, IfSome};
 ghost use Rattle.question.specs.Questions.{is_stepped};
 ghost use Rattle.question.specs.Texts.{text};
 ghost use Rattle.refusal.specs.Replies.{reply, mapped};

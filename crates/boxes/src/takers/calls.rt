@@ -1,5 +1,5 @@
 // What each taker does with a piece.
-ghost use Rattle.std.specs.Prelude.{◌≡◌, ◌≤◌, suc, ◌*◌, if◌then◌else◌, ◌==◌, nat_le, slice_index};
+ghost use Rattle.std.specs.Prelude.{◌≡◌, ◌≤◌, suc, nat_le, slice_index};
 ghost use Rattle.question.specs.Expressions.{greatest};
 ghost use Rattle.question.specs.Questions.{all_below};
 ghost use Rattle.question.specs.Texts.{text};

@@ -3,6 +3,6 @@ use Rattle.std.proofs.Common.{rules}
 use Rattle.ranges.specs.Boxes.{width}
 use Rattle.boxes.proofs.measures.width_of.Goals as goal
 
-pub returns : goal.returns
+pub returns-clause-is : goal.returns-clause-is
 unfolding width
-returns c = search rules
+returns-clause-is c = search rules

@@ -1,7 +1,7 @@
 -- The first box against the others, and then those.
 use Rattle.std.proofs.Common.{◌&&◌, ap, ◌∙◌}
 use Rattle.ranges.specs.Boxes.{disjoint}
-use Rattle.boxes.proofs.Loops.{rest_of, disjoint_none, disjoint_opened}
+use Rattle.boxes.proofs.Chains.{rest_of, disjoint_none, disjoint_opened}
 use Rattle.boxes.proofs.sums.+all_apart.Goals as goal
 
 pub returns-in-empty : goal.returns-in-empty

@@ -4,7 +4,7 @@ use Rattle.std.proofs.lemmas.Iterator.{YieldsList-from_slice}
 use Rattle.std.proofs.lemmas.Iterator.Search.{all_from_yields_List}
 use borrow.Author.Tests.{tests}
 use Rattle.ranges.specs.Boxes.{fits}
-use Rattle.boxes.proofs.Loops.{fit_tests}
+use Rattle.boxes.proofs.Chains.{fit_tests}
 use Rattle.boxes.proofs.sums.all_fit.Goals as goal
 
 pub returns : goal.returns

@@ -4,7 +4,7 @@ use Rattle.std.proofs.lemmas.Iterator.{YieldsList-from_slice}
 use Rattle.std.proofs.lemmas.Iterator.Search.{all_from_yields_List}
 use borrow.Author.Tests.{tests}
 use Rattle.ranges.specs.Boxes.{apart}
-use Rattle.boxes.proofs.Loops.{apart_tests}
+use Rattle.boxes.proofs.Chains.{apart_tests}
 use Rattle.boxes.proofs.sums.apart_from.Goals as goal
 
 pub returns : goal.returns

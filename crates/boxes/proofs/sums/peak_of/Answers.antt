@@ -5,7 +5,7 @@ use Rattle.std.proofs.lemmas.Iterator.Adapters.{option_map_id}
 use Rattle.std.proofs.lemmas.Iterator.{YieldsList-from_slice, YieldsList-from_map}
 use Rattle.std.proofs.lemmas.Iterator.Consumers.{max_from_yields_List}
 use Rattle.ranges.specs.Boxes.{peak_in}
-use Rattle.boxes.proofs.Loops.{peaked}
+use Rattle.boxes.proofs.Chains.{peaked}
 use Rattle.boxes.proofs.sums.peak_of.Goals as goal
 
 pub returns : goal.returns

@@ -4,7 +4,7 @@ use Rattle.std.proofs.lemmas.Iterator.{YieldsList-from_slice, YieldsList-from_ma
 use Rattle.std.proofs.lemmas.Iterator.Consumers.{fold_from_yields_List}
 use Rattle.ranges.specs.Boxes.{volume, volume_in}
 use Rattle.boxes.specs.Takers.{capped}
-use Rattle.boxes.proofs.Loops.{summed}
+use Rattle.boxes.proofs.Chains.{summed}
 use Rattle.boxes.proofs.sums.volumes_of.Goals as goal
 
 pub returns : goal.returns

@@ -5,7 +5,7 @@ use Rattle.std.proofs.lemmas.Iterator.{YieldsList-from_slice}
 use Rattle.std.proofs.lemmas.Iterator.Search.{find_from_yields_List}
 use borrow.Author.Tests.{tests}
 use Rattle.ranges.specs.Boxes.{inside}
-use Rattle.boxes.proofs.Loops.{map_or_is, weight_first}
+use Rattle.boxes.proofs.Chains.{map_or_is, weight_first}
 use Rattle.boxes.proofs.sums.weight_of.Goals as goal
 
 pub returns : goal.returns

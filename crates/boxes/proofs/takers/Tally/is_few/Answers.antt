@@ -4,7 +4,7 @@ use Rattle.std.proofs.lemmas.Iterator.{YieldsList-from_slice}
 use Rattle.std.proofs.lemmas.Iterator.Search.{all_from_yields_List}
 use borrow.Author.Tests.{tests}
 use Rattle.boxes.specs.Holding.{most_boxes}
-use Rattle.boxes.proofs.Loops.{below_tests}
+use Rattle.boxes.proofs.Chains.{below_tests}
 use Rattle.boxes.proofs.takers.Tally.is_few.Goals as goal
 
 pub returns : goal.returns

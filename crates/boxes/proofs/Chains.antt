@@ -1,6 +1,7 @@
--- Loops over boxes, by what is left of them.
+-- Chains over boxes: what their sums, maxima and tests come to, and lists by their first element.
 use Rattle.std.proofs.Common.{◌≡◌, ℕ, zero, suc, ◌+◌, ◌-◌, ◌^◌, ◌<◌, ◌≤◌, max, Bool, true, false, cond, ◌&&◌, nat_le, List, [], ◌∷◌, Some, None, Option, map, take, length, get_or, drop, fold, sym, refl, ap, ◌∙◌, arith}
 use Rattle.std.proofs.lemmas.List.{take_all}
+use Rattle.std.proofs.Math.Bool.{and_assoc, and-true}
 use Rattle.std.proofs.lemmas.List.Recursion.{same_from_clauses}
 use Rattle.std.specs.List.{list_all, reduce, find}
 use Rattle.std.specs.Option.{MatchOption, unwrap_or, option_map}
@@ -43,18 +44,10 @@ pub fit_tests : (ts : List ℕ) (bs : List WeightedBox) → list_all (λ b. fits
 unfolding fit_all
 fit_tests ts = same_from_clauses _ _ (λ b t. (fits ts b.sides && nat_le 1 b.weight) && t) refl (λ b bs. refl) (λ b bs. refl)
 
-assoc : (a b c : Bool) → ((a && b) && c) ≡ (a && (b && c))
-assoc true b c = refl
-assoc false b c = refl
-
-and_true : (a : Bool) → a ≡ (a && true)
-and_true true = refl
-and_true false = refl
-
 below_front : (p : ℕ → Bool) (n : ℕ) → all_below (suc n) p ≡ (p 0 && all_below n (λ k. p (suc k)))
 unfolding all_below
-below_front p zero = and_true (p 0)
-below_front p (suc n) = ap (λ z. z && p (suc n)) (below_front p n) ∙ assoc (p 0) (all_below n (λ k. p (suc k))) (p (suc n))
+below_front p zero = sym (and-true (p 0))
+below_front p (suc n) = ap (λ z. z && p (suc n)) (below_front p n) ∙ and_assoc (p 0) (all_below n (λ k. p (suc k))) (p (suc n))
 
 pub below_tests : (t : ℕ → Bool) (n : ℕ) (xs : List ℕ) → length xs ≡ n → list_all t xs ≡ all_below n (λ k. t (get_or xs k 0))
 unfolding all_below
