@@ -1,10 +1,7 @@
 -- The folders after one of them has heard an answer.
-use Rattle.std.proofs.Common.{◌≡◌, ℕ, suc, Bool, true, false, cond, eqb, List, [], ◌∷◌, map, get_or, set, Some, None, Ok, Err, Option, Result, refl, ap, ◌∙◌}
+use Rattle.std.proofs.Common.{◌≡◌, ℕ, suc, Bool, true, false, cond, eqb, List, [], ◌∷◌, map, get_or, set, Some, None, Option, refl, ap, ◌∙◌}
 use Rattle.std.specs.Option.{option_map}
-use Rattle.refusal.specs.declared.list.Refusal.{Refusal}
-use Rattle.refusal.specs.Replies.{given, reply}
-use Rattle.belief.specs.Meaning.{Meaning, revised}
-use Rattle.belief.specs.Calls.{leaving}
+use Rattle.belief.specs.Meaning.{Meaning}
 use Rattle.cabinet.specs.declared.folders.Folder.{Folder}
 use Rattle.cabinet.specs.Memory.{meant, changed}
 use Rattle.cabinet.proofs.Places.{first_of}
@@ -33,8 +30,3 @@ others {X} c g d k (f ∷ fs) i e s = go (eqb f.code c) refl (first_of c fs) (λ
     go true t o ih e s = let z : i ≡ 0 = cc in rw z (let u : eqb g.code c ≡ true = ap (λ x. eqb x c) (rw z at s) ∙ t in rw u)
     go false t (Some j) ih e s = let z : i ≡ suc j = cc in rw z (rw t (ap (λ xs. f ∷ xs) (ih j refl (rw z at s))))
     go false t None ih e s = cc
-
--- a revising that was accepted revises
-pub revision : (r : Result (Unit {0}) Refusal) (m : Meaning) (q : List ℕ) (a : ℕ) → reply r ≡ given tt → leaving r m q a ≡ revised m q a
-revision (Ok u) m q a e = refl
-revision (Err x) m q a e = cc
