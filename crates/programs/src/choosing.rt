@@ -49,6 +49,7 @@ pub(crate) fn run_script<P: Program>(rt: &HostRuntime, text: &[u8]) -> io::Resul
     }
 }
 
+// Reads the choice of a kind, and hands the lines that follow to the program.
 fn run_kind<P: Program>(rt: &HostRuntime, script: &mut Script<'_>) -> Result<(), LineError> {
     match chosen_kind(script)? {
         Kind::Table => P::run::<Table>(rt, script),

@@ -7,14 +7,9 @@ use script::{LineError, Words};
 use std::alloc::Global;
 use table::Table;
 
-impl Part {
-    // What became of a call that makes this part.
-    fn made<T>(self, made: Result<T, Refusal>) -> Result<T, Unmade> {
-        made.map_err(|refusal| Unmade {
-            part: self,
-            refusal,
-        })
-    }
+// What a call made of a part, or that it could not.
+fn at_part<T>(part: Part, made: Result<T, Refusal>) -> Result<T, Unmade> {
+    made.map_err(|refusal| Unmade { part, refusal })
 }
 
 impl Noted for Table {
@@ -26,7 +21,10 @@ impl Noted for Table {
 
     fn made(plan: &Plan<u32>) -> Result<Table, Unmade> {
         let span = &plan.span;
-        Part::Table.made(Table::make(span.first, span.count, span.tops, &plan.items))
+        at_part(
+            Part::Table,
+            Table::make(span.first, span.count, span.tops, &plan.items),
+        )
     }
 }
 
@@ -39,9 +37,12 @@ impl Noted for Boxes {
 
     fn made(plan: &Plan<Leaning>) -> Result<Boxes, Unmade> {
         let span = &plan.span;
-        let mut boxes = Part::Boxes.made(Boxes::fresh(span.first, span.count, span.tops))?;
+        let mut boxes = at_part(Part::Boxes, Boxes::fresh(span.first, span.count, span.tops))?;
         for lean in &plan.items {
-            Part::Lean.made(boxes.lean(lean.lowest, lean.highest, u32::from(lean.factor)))?;
+            at_part(
+                Part::Lean,
+                boxes.lean(lean.lowest, lean.highest, u32::from(lean.factor)),
+            )?;
         }
         Ok(boxes)
     }
@@ -66,6 +67,9 @@ impl<L: Noted, R: Noted> Noted for Pair<L, R> {
     }
 
     fn made(plan: &Sides<L::Plan, R::Plan>) -> Result<Pair<L, R>, Unmade> {
-        Part::Pair.made(Pair::make(L::made(&plan.left)?, R::made(&plan.right)?))
+        at_part(
+            Part::Pair,
+            Pair::make(L::made(&plan.left)?, R::made(&plan.right)?),
+        )
     }
 }

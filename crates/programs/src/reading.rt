@@ -5,12 +5,12 @@ use script::{Lines, NotUnderstood, Words, passed_over};
 
 // A line of a script, with its number among all lines.
 #[derive(Clone, Copy)]
-pub(crate) struct Line<'a> {
+pub(crate) struct NumberedLine<'a> {
     pub(crate) number: usize,
     pub(crate) text: &'a [u8],
 }
 
-impl<'a> Line<'a> {
+impl<'a> NumberedLine<'a> {
     pub(crate) fn words(self) -> Words<'a> {
         Words { rest: self.text }
     }
@@ -25,15 +25,15 @@ pub(crate) struct Script<'a> {
 }
 
 impl<'a> Iterator for Script<'a> {
-    type Item = Line<'a>;
+    type Item = NumberedLine<'a>;
 
     ghost remaining = { λ s. at_most (length s.lines.rest.now) };
 
-    fn next(&mut self) -> Option<Line<'a>> {
+    fn next(&mut self) -> Option<NumberedLine<'a>> {
         while let Some(text) = self.lines.next() {
             self.number = self.number.saturating_add(1);
             if !passed_over(text) {
-                return Some(Line {
+                return Some(NumberedLine {
                     number: self.number,
                     text,
                 });

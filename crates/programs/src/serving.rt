@@ -9,6 +9,7 @@ use script::{LineError, NotUnderstood, Words};
 use std::alloc::Global;
 use std::io;
 
+// The program `serve`.
 struct Serving;
 
 // Works through a script about one cabinet, from its making to its audit.
@@ -57,6 +58,7 @@ impl Head {
     }
 }
 
+// NAME SIZE, where the size is at most `most`.
 fn read_size(script: &mut Script<'_>, name: &[u8], most: usize) -> Result<usize, NotUnderstood> {
     let mut words = script.head(name)?;
     let size = words.number()?;
@@ -78,6 +80,7 @@ enum Line<B> {
     NotUnderstood { number: usize },
 }
 
+// The lines after the head, each with its call or why it makes none.
 fn read_lines<B: Noted>(heap: Global, script: &mut Script<'_>) -> Result<Vec<Line<B>>, LineError> {
     let mut lines = Vec::new(heap);
     for line in script {
@@ -90,11 +93,12 @@ fn read_lines<B: Noted>(heap: Global, script: &mut Script<'_>) -> Result<Vec<Lin
     Ok(lines)
 }
 
+// One line: a call, or an enrolment whose belief could not be made.
 fn read_line<B: Noted>(heap: Global, mut words: Words<'_>) -> Result<Line<B>, LineError> {
     match words.word()? {
         b"enrol" => read_enrol(heap, words),
         b"ask" => read_ask(heap, words),
-        b"look" => Ok(read_look(words)?),
+        b"look" => read_look(words),
         _ => Err(LineError::NotUnderstood),
     }
 }
@@ -125,12 +129,13 @@ fn read_ask<B: Noted>(heap: Global, mut words: Words<'_>) -> Result<Line<B>, Lin
 }
 
 // look CODE
-fn read_look<B: Noted>(mut words: Words<'_>) -> Result<Line<B>, NotUnderstood> {
+fn read_look<B: Noted>(mut words: Words<'_>) -> Result<Line<B>, LineError> {
     let code = words.number()?;
     words.end()?;
     Ok(Line::Look { code })
 }
 
+// Makes the cabinet, makes the calls, and prints what they returned and the audit.
 fn serve_lines<B: Noted>(rt: &HostRuntime, head: &Head, lines: &[Line<B>]) -> io::Result<()> {
     let free = Folder {
         code: 0,
@@ -143,6 +148,7 @@ fn serve_lines<B: Noted>(rt: &HostRuntime, head: &Head, lines: &[Line<B>]) -> io
         .iter()
         .filter_map(|line| line.call())
         .collect::<Vec<Call<'_, B>>>(rt.alloc())?;
+    // `session` takes the calls and what they return as two slices, place by place.
     let mut returns = vec![in rt.alloc(); Return::Looked(Err(Refusal::Code)); calls.len()]?;
     match session(
         head.count,
@@ -198,6 +204,7 @@ fn print_lines<B: Belief>(
     Ok(())
 }
 
+// Prints what the call about this code returned.
 fn print_return(rt: &HostRuntime, code: u16, returned: Return) -> io::Result<()> {
     match returned {
         Return::Enrolled(Ok(place)) => println!(rt; "enrol {code}: place {place}"),

@@ -7,6 +7,7 @@ use refusal::Refusal;
 use script::{LineError, Words};
 use std::io;
 
+// The program `weigh`.
 struct Weighing;
 
 // Works through a script about one belief, and prints what a question would tell.
@@ -36,6 +37,7 @@ fn belief_plan<B: Noted>(rt: &HostRuntime, script: &mut Script<'_>) -> Result<B:
     Ok(plan)
 }
 
+// Prints what a belief says of itself.
 fn print_belief<B: Belief>(rt: &HostRuntime, name: &str, belief: &B) -> io::Result<()> {
     let total = belief.total();
     let peak = belief.peak();
@@ -43,6 +45,7 @@ fn print_belief<B: Belief>(rt: &HostRuntime, name: &str, belief: &B) -> io::Resu
     println!(rt; "{name}: total {total}, peak {peak}, whole {whole}")
 }
 
+// The lines after the head, one by one.
 fn weigh_lines<B: Belief>(
     rt: &HostRuntime,
     mut belief: B,
@@ -56,6 +59,7 @@ fn weigh_lines<B: Belief>(
     Ok(())
 }
 
+// One line.
 fn weigh_line<B: Belief>(
     rt: &HostRuntime,
     belief: &mut B,
