@@ -13,7 +13,8 @@ pub(crate) const STEP_BYTES: usize = 6;
 // The most steps that a question has.
 pub(crate) const MOST_STEPS: usize = LONGEST / STEP_BYTES;
 
-// A fixed array with their number beside: no memory is asked for, and the steps are copied as a value.
+// A fixed array with their number beside, as a question has for its bytes: no memory is asked for, and the steps are copied as a
+// value. The two are not one struct over any item, since such a struct may hold no array of its items.
 #[derive(Clone, Copy)]
 pub struct Steps {
     list: [Step; MOST_STEPS],

@@ -1,5 +1,6 @@
-// Walks over the bytes of a question, each from a command to its operands. A byte is cast to its character, as `char::from` would say at more length.
-// What must begin at the bytes is asked of each walk: a type for it would be made anew at each operand, of bytes that the one before it leaves.
+// Walks over the bytes of a question, each from a command to its operands. A command is the character of its byte, told apart by
+// literals; the cast says no less than `char::from`, which each proof would have to see through. What must begin at the bytes is asked
+// of each walk: a type for it would be made anew at each operand, of bytes that the one before it leaves.
 ghost use Rattle.std.specs.Prelude.{◌≡◌, ℕ, ◌+◌, ◌*◌, ◌<◌, ◌≤◌, List, length, IfSome, if◌then◌else◌, MatchResult, slice_index};
 ghost use Rattle.std.specs.Option.{option_map as seen};
 ghost use Rattle.question.specs.Expressions.{longest, limit, is_zero, applied, limited};
