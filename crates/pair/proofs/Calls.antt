@@ -10,7 +10,6 @@ use Rattle.belief.specs.Calls.{replied}
 use Rattle.belief.proofs.Replies.{replied_map}
 use Rattle.pair.specs.Pairs.{paired, within, side_of}
 use Rattle.pair.specs.Folds.{Parts, pair_total, pair_peak, pair_whole, mass_left, mass_right, heaviest_left, heaviest_right, total_most, peak_most, mass_most, heaviest_most}
-use Rattle.pair.specs.Soundness.{pair_laws}
 use Rattle.pair.proofs.Revisings.{by_left, by_right}
 
 -- a product that stops at the greatest number of 64 bits
@@ -29,9 +28,6 @@ module _ (l r : Meaning) (p : Parts l r) where
 
   pub whole_is : (x y : Bool) → x ≡ whole_of l → y ≡ whole_of r → (x && y) ≡ whole_of (paired l r)
   whole_is x y ex ey = let z = pair_whole l r p in cc
-
-  pub weight_is : (s : List ℕ) (x y z : ℕ) → z ≡ capped (x * y) → x ≡ l.weight s → y ≡ r.weight s → z ≡ (paired l r).weight s
-  weight_is s x y z e ex ey = let w = pair_laws l r p in let b = w.bounded s in let m = w.most in saturated x y z _ _ _ e ex ey refl (omega arith)
 
   module _ (q : List ℕ) (a x y z : ℕ) (e : z ≡ capped (x * y)) where
     pub mass_left_is : within l q ≡ true → ◌≡◌ {A = Reply ℕ} (given x) (replied l q (mass_of l q a)) → y ≡ total_of r → ◌≡◌ {A = Reply ℕ} (given z) (replied (paired l r) q (mass_of (paired l r) q a))

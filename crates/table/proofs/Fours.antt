@@ -1,5 +1,6 @@
 -- Places and sheets of four fields, as the code computes them.
 use Rattle.std.proofs.Common.{◌≡◌, ℕ, ◌+◌, ◌*◌, ◌<◌, ◌≤◌, Bool, true, false, cond, ◌&&◌, nat_le, ltb, List, [], ◌∷◌, length, get_or, sym, refl, ap, ◌∙◌, inl, inr, add-zero, mul-le-mul_right, add-mul, one-mul, mul-one, arith, le-leb, ltb-true, ltb-false}
+use Rattle.std.specs.List.{list_all, zip}
 use Rattle.std.proofs.lemmas.Bool.{cases_lt}
 use Rattle.belief.proofs.Fours.{four_of, fours}
 use Rattle.table.specs.Places.{size_of, place_of, fits_in}
@@ -27,6 +28,13 @@ unfolding fits_in
 fits_four xs ys h k =
     ap (λ z. nat_le (get_or ys 0 0) (get_or xs 0 0) && (nat_le (get_or ys 1 0) (get_or xs 1 0) && (nat_le (get_or ys 2 0) (get_or xs 2 0) && z))) (sym (and_true (nat_le (get_or ys 3 0) (get_or xs 3 0))))
     ∙ ap (λ z. fits_in z (four_of ys)) (sym (fours xs h)) ∙ ap (fits_in xs) (sym (fours ys k))
+
+-- values that are tested side by side with the tops
+pub fits_zip : (xs ys : List ℕ) → list_all (λ p. nat_le p.1 p.0) (zip xs ys) ≡ fits_in xs ys
+unfolding fits_in
+fits_zip [] ys = refl
+fits_zip (x ∷ xs) [] = refl
+fits_zip (x ∷ xs) (y ∷ ys) = ap (λ z. nat_le y x && z) (fits_zip xs ys)
 
 -- how many sheets there are for each value of a field
 abbrev last : List ℕ → ℕ

@@ -1,5 +1,5 @@
 -- The weights of a table and the shares of an answer, in the order of the sheets.
-use Rattle.std.proofs.Common.{◌≡◌, ℕ, zero, suc, ◌+◌, ◌*◌, ◌<◌, ◌≤◌, min, max, Bool, true, false, cond, ◌&&◌, eqb, List, [], ◌∷◌, ◌++◌, map, length, get_or, take, set, sym, refl, ap, ◌∙◌, subst, arith, length-take, get_or-take, take-suc, drop, drop-cons, nat_le, zero-add, add-one, append_assoc}
+use Rattle.std.proofs.Common.{◌≡◌, ℕ, zero, suc, ◌+◌, ◌*◌, ◌<◌, ◌≤◌, min, max, Bool, true, false, cond, ◌&&◌, eqb, List, [], ◌∷◌, ◌++◌, map, length, get_or, take, sym, refl, ap, ◌∙◌, subst, arith, length-take, get_or-take, take-suc, nat_le, zero-add}
 use Rattle.std.specs.List.{sum, fold, reduce, list_all}
 use Rattle.std.specs.Option.{unwrap_or}
 use Rattle.std.specs.Ordering.{max_by_ordering, nat_cmp}
@@ -7,7 +7,7 @@ use Rattle.std.proofs.Math.Seq.{take-length}
 use Rattle.std.proofs.lemmas.List.Elements.{All-from_get_or}
 use Rattle.std.proofs.lemmas.List.Folds.{list_all-append, max_of_map}
 use Rattle.std.proofs.lemmas.List.Sums.{sum_by-le}
-use Rattle.std.proofs.lemmas.List.{take_at, take_more_set, drop-set-lt}
+use Rattle.std.proofs.lemmas.List.{take_at}
 use Rattle.question.specs.Questions.{all_below, answers}
 use Rattle.belief.specs.Meaning.{Meaning, kept, total_of, peak_of, whole_of, mass_of, heaviest_of}
 use Rattle.table.specs.declared.held.Table.{Table}
@@ -135,20 +135,6 @@ unfolding heaviest_of
 heaviest_in_order m q a = max_in_order m.tops (kept q a m.weight)
 
 -- ---- writing the shares
-
-module _ (q : List ℕ) (a : ℕ) (tops : List ℕ) where
-  -- one weight more is written
-  pub write_more : (s us ws : List ℕ) (i y : ℕ) → i < length ws → y ≡ cond (eqb (answers q s) a) (get_or ws i 0) 0 →
-      take i ws ++ shares_from q a tops s (drop i ws) ≡ us → take (i + 1) (set ws i y) ++ shares_from q a tops (next_sheet tops s) (drop (i + 1) (set ws i y)) ≡ us
-  write_more s us ws i y l e h =
-      let rest = shares_from q a tops (next_sheet tops s) (drop (suc i) ws) in
-      let d : drop (i + 1) (set ws i y) ≡ drop (suc i) ws = drop-set-lt (i + 1) ws i y (omega arith) ∙ ap (λ n. drop n ws) (add-one i) in
-      ap (λ z. z ++ shares_from q a tops (next_sheet tops s) (drop (i + 1) (set ws i y))) (take_more_set ws i y l)
-      ∙ ap (λ z. (take i ws ++ (y ∷ [])) ++ shares_from q a tops (next_sheet tops s) z) d
-      ∙ append_assoc (take i ws) (y ∷ []) rest
-      ∙ ap (λ z. take i ws ++ (z ∷ rest)) e
-      ∙ ap (λ z. take i ws ++ shares_from q a tops s z) (sym (drop-cons ws i 0 l))
-      ∙ h
 
 -- the weights of a table with the shares in their place
 module _ (t : Table) (q : List ℕ) (a : ℕ) (xs ys : List ℕ) (e : xs ≡ shares_from q a t.span.tops first_sheet (take (min (size_of t.span.tops) 1024) t.weights)) where

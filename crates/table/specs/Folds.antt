@@ -26,14 +26,6 @@ unfoldable pub fold_below : {A : Type 0} → (A → A → A) → A → ℕ → (
 fold_below op unit zero f = unit
 fold_below op unit (suc n) f = op (fold_below op unit n f) (f n)
 
-pub fold_none : {A : Type 0} (op : A → A → A) (unit : A) (f : ℕ → A) → unit ≡ fold_below op unit 0 f
-unfolding fold_below
-fold_none op unit f = refl
-
-pub fold_more : {A : Type 0} (op : A → A → A) (unit : A) (n : ℕ) (x y : A) (f : ℕ → A) → x ≡ fold_below op unit n f → y ≡ f n → op x y ≡ fold_below op unit (n + 1) f
-unfolding fold_below
-fold_more op unit n x y f e h = rw add-one (rw (e, h))
-
 pub fold_cong : {A : Type 0} (op : A → A → A) (unit : A) (n : ℕ) (f g : ℕ → A) → ((i : ℕ) → i < n → f i ≡ g i) → fold_below op unit n f ≡ fold_below op unit n g
 unfolding fold_below
 fold_cong op unit zero f g h = refl

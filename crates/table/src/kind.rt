@@ -3,7 +3,7 @@ ghost use Rattle.std.specs.Prelude.{◌≡◌, nat_le};
 ghost use Rattle.table.specs.Tables.{meaning};
 ghost use Rattle.table.specs.Soundness.{table_laws};
 
-use crate::held::{PLACES, Table};
+use crate::held::Table;
 use crate::places::{fits_in, place_of};
 use belief::{Belief, good_total};
 use question::Question;
@@ -52,11 +52,10 @@ impl Belief for Table {
         if !fits_in(self.span.tops, own) {
             return 0;
         }
-        let at = place_of(self.span.tops, own);
-        if at >= PLACES {
-            return 0;
+        match self.weights.get(place_of(self.span.tops, own)) {
+            Some(weight) => u64::from(*weight),
+            None => 0,
         }
-        u64::from(self.weights[at])
     }
 
     fn carries(&self, question: &[u8]) -> Result<bool, Refusal> {

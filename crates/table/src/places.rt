@@ -3,7 +3,7 @@ ghost use Rattle.std.specs.Prelude.{◌≡◌};
 ghost use Rattle.table.specs.Places.{size_of, place_of, fits_in};
 ghost use Rattle.table.specs.Walks.{next_sheet};
 
-// How many sheets there are.
+// How many sheets there are. The four counts are written out: the check knows no bound for a product over an iterator.
 pub fn size_of(tops: [u8; 4]) -> usize
     ensures { result ≡ size_of tops }
 {
@@ -11,7 +11,7 @@ pub fn size_of(tops: [u8; 4]) -> usize
     (usize::from(a) + 1) * ((usize::from(b) + 1) * ((usize::from(c) + 1) * (usize::from(d) + 1)))
 }
 
-// How many sheets come before a sheet.
+// How many sheets come before a sheet, with the four counts written out too.
 pub fn place_of(tops: [u8; 4], sheet: [u8; 4]) -> usize
     ensures { result ≡ place_of tops sheet }
 {
@@ -27,9 +27,9 @@ pub fn place_of(tops: [u8; 4], sheet: [u8; 4]) -> usize
 pub fn fits_in(tops: [u8; 4], sheet: [u8; 4]) -> bool
     ensures { result ≡ fits_in tops sheet }
 {
-    let [a, b, c, d] = tops;
-    let [v, w, x, y] = sheet;
-    (v <= a) & ((w <= b) & ((x <= c) & (y <= d)))
+    tops.iter()
+        .zip(sheet.iter())
+        .all(|(top, value)| value <= top)
 }
 
 // The sheet after a sheet, and the first one after the last.

@@ -91,13 +91,15 @@ impl Table {
         ensures { Kept (text question.now) answer self.old self.new }
     {
         let places = self.places();
+        // A copy is lent, since the checker lends no field that stands beside ghost fields.
         let mut weights = self.weights;
         keep_shares(&mut weights[..places], question, answer, self.span.tops);
         self.weights = weights;
     }
 }
 
-// Sets to 0 the weight of each sheet that does not give an answer, from the first sheet on.
+// Sets to 0 the weight of each sheet that does not give an answer, from the first sheet on. It steps from sheet to sheet
+// itself, since shares lend the weights that are written here.
 fn keep_shares(weights: &mut [u32], question: &Question, answer: u8, tops: [u8; 4])
     ensures { weights.new ≡ shares_from (text question.now) answer tops first_sheet weights.old }
 {
