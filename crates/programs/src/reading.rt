@@ -20,7 +20,7 @@ impl<'a> NumberedLine<'a> {
 #[derive(Clone, Copy)]
 pub(crate) struct Script<'a> {
     lines: Lines<'a>,
-    // the number of the line that was read last; at the end, that of the line that is missing
+    // the number of the line that was read last; at the end, that of the line that is missing, which `enumerate` has not
     pub(crate) number: usize,
 }
 

@@ -13,12 +13,9 @@ onto_some : (xs : List ℕ) (h l : ℕ) (p : Option (List ℕ)) → onto xs (joi
 onto_some xs h l (Some ys) = ap Some (sym (append_assoc xs ((h * 16 + l) ∷ []) ys))
 onto_some xs h l None = refl
 
-onto_none : (xs : List ℕ) (o : Option ℕ) (p : Option (List ℕ)) → onto xs (joined o None p) ≡ None
-onto_none xs (Some h) p = refl
-onto_none xs None p = refl
-
-module _ (xs w : List ℕ) (l : 2 ≤ length w) where
-  front : pairs w ≡ joined (nibble (get_or w 0 0)) (nibble (get_or w 1 0)) (pairs (take (length w - 2) (drop 2 w)))
+-- two digits, and what is left after them
+module _ (w : List ℕ) (l : 2 ≤ length w) where
+  pub front : pairs w ≡ joined (nibble (get_or w 0 0)) (nibble (get_or w 1 0)) (pairs (take (length w - 2) (drop 2 w)))
   unfolding pairs
   front = by w l ∙ ap (λ (r : List ℕ). joined (nibble (get_or w 0 0)) (nibble (get_or w 1 0)) (pairs r)) (sym (take_rest w 2))
     where
@@ -27,18 +24,9 @@ module _ (xs w : List ℕ) (l : 2 ≤ length w) where
       by (x ∷ []) l = absurd (omega arith)
       by (x ∷ y ∷ xs) l = refl
 
-  pub no_high : nibble (get_or w 0 0) ≡ None → onto xs (pairs w) ≡ None
-  no_high e = ap (onto xs) (front ∙ ap (λ (o : Option ℕ). joined o (nibble (get_or w 1 0)) (pairs (take (length w - 2) (drop 2 w)))) e)
-
-  pub no_low : nibble (get_or w 1 0) ≡ None → onto xs (pairs w) ≡ None
-  no_low e =
-      ap (onto xs) (front ∙ ap (λ (o : Option ℕ). joined (nibble (get_or w 0 0)) o (pairs (take (length w - 2) (drop 2 w)))) e) ∙ onto_none xs (nibble (get_or w 0 0)) (pairs (take (length w - 2) (drop 2 w)))
-
-  pub one_more : (t : Option (List ℕ)) (a b : ℕ) → onto xs (pairs w) ≡ t → nibble (get_or w 0 0) ≡ Some a → nibble (get_or w 1 0) ≡ Some b →
+  pub one_more : (xs : List ℕ) (t : Option (List ℕ)) (a b : ℕ) → onto xs (pairs w) ≡ t → nibble (get_or w 0 0) ≡ Some a → nibble (get_or w 1 0) ≡ Some b →
       onto (xs ++ ((a * 16 + b) ∷ [])) (pairs (take (length w - 2) (drop 2 w))) ≡ t
-  one_more t a b h e f =
-      let R = pairs (take (length w - 2) (drop 2 w)) in
-      sym (ap (onto xs) (front ∙ (ap (λ (o : Option ℕ). joined o (nibble (get_or w 1 0)) R) e ∙ ap (λ (o : Option ℕ). joined (Some a) o R) f)) ∙ onto_some xs a b R) ∙ h
+  one_more xs t a b h e f = sym (rw (front, e, f) (onto_some xs a b (pairs (take (length w - 2) (drop 2 w))))) ∙ h
 
 -- no digit is left, or one
 pub end : (xs w : List ℕ) → length w ≡ 0 → onto xs (pairs w) ≡ Some xs

@@ -29,7 +29,7 @@ fn is_sized(word: &[u8]) -> bool
 }
 
 // The bytes that pairs of hexadecimal digits write, of any number.
-#[tactic(auto, using(crate::proofs::Pairs::no_high, crate::proofs::Pairs::no_low, crate::proofs::Pairs::one_more, crate::proofs::Pairs::end, crate::proofs::Pairs::odd))]
+#[tactic(auto, using(crate::proofs::Pairs::front, crate::proofs::Pairs::end, crate::proofs::Pairs::odd))]
 pub fn hex_digits(heap: Global, word: &[u8]) -> Result<Vec<u8>, LineError>
     ensures { IsReadBy (λ v. v.items) result (pairs word.now) }
 {

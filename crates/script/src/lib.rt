@@ -1,6 +1,6 @@
-// The text that the programs read and print: lines, words parted by spaces, decimal numbers, bytes in hexadecimal, and
-// refusals. It promises what each of these is read as, by the definitions in specs/Text.antt, and that bytes printed in
-// hexadecimal and read again are the same bytes. It rests on nothing but the list of refusals.
+// The text that the programs read and print: lines, words parted by spaces, decimal numbers and bytes in hexadecimal. It
+// promises what each of these is read as, by the definitions in specs/Text.antt, and that bytes printed in hexadecimal and
+// read again are the same bytes. It rests on nothing.
 #![tactic(auto)]
 
 mod bytes;

@@ -3,9 +3,7 @@ use std::{env, fs, io};
 
 // The script: the file that the first argument names, or standard input if there is none.
 pub fn input(rt: &HostRuntime) -> io::Result<Vec<u8>> {
-    let mut args = env::args(rt)?;
-    let _ = args.next();
-    match args.next() {
+    match env::args(rt)?.nth(1) {
         Some(path) => fs::read(rt, path.as_str()),
         None => {
             let mut text = Vec::new(rt.alloc());

@@ -15,7 +15,7 @@ fn count_before(text: &[u8], b: u8) -> usize
     text.iter().take_while(|x| **x != b).count()
 }
 
-// How many spaces a text begins with.
+// How many spaces a text begins with. One function for both would take a test, and its contract would speak of closures.
 fn count_spaces(text: &[u8]) -> usize
     ensures is { result ≡ run 32 text.now }
     ensures within { result ≤ length text.now }
