@@ -1,6 +1,6 @@
 -- Folders by their codes: what a change of one leaves of the others.
 use Rattle.std.proofs.Common.{◌≡◌, ℕ, zero, suc, Bool, true, false, cond, eqb, List, [], ◌∷◌, ◌++◌, map, length, replicate, Some, None, sym, refl, ap, ◌∙◌, arith}
-use Rattle.std.proofs.lemmas.Bool.{eq-eqb, ne_eqb, eqb-true, false≢true}
+use Rattle.std.proofs.lemmas.Bool.{eq-eqb, ne_eqb, eqb-true}
 use Rattle.std.specs.List.{AllByRecursion}
 use Rattle.std.specs.Option.{option_map}
 use Rattle.belief.specs.Meaning.{Meaning}
@@ -34,10 +34,10 @@ module _ {X : Type 0} (g : Folder X → Folder X) (own : (f : Folder X) → (g f
           coded b (changed c g fs) ≡ cond t (option_map g (coded b fs)) (coded b fs) →
           coded b (cond s (g f ∷ fs) (f ∷ changed c g fs)) ≡ cond t (option_map g (cond u (Some f) (coded b fs))) (cond u (Some f) (coded b fs))
       by true i true j true k h = ap (λ n. cond (eqb n b) (Some (g f)) (coded b fs)) (own f) ∙ ap (λ v. cond v (Some (g f)) (coded b fs)) j
-      by true i true j false k h = absurd (false≢true (sym k ∙ ap (λ n. eqb n b) (sym (eqb-true f.code c i)) ∙ j))
-      by true i false j true k h = absurd (false≢true (sym j ∙ ap (λ n. eqb n b) (eqb-true f.code c i) ∙ k))
+      by true i true j false k h = let e = eqb-true f.code c i in cc
+      by true i false j true k h = let e = eqb-true f.code c i in cc
       by true i false j false k h = ap (λ n. cond (eqb n b) (Some (g f)) (coded b fs)) (own f) ∙ ap (λ v. cond v (Some (g f)) (coded b fs)) j
-      by false i true j true k h = absurd (false≢true (sym i ∙ ap (λ n. eqb f.code n) (eqb-true c b k) ∙ j))
+      by false i true j true k h = let e = eqb-true c b k in cc
       by false i true j false k h = ap (λ v. cond v (Some f) (coded b (changed c g fs))) j
       by false i false j t k h = ap (λ v. cond v (Some f) (coded b (changed c g fs))) j ∙ h
 
@@ -96,7 +96,7 @@ module _ {X : Type 0} where
             (coded g.code fs ≡ None → coded c (changed 0 (λ f. g) fs) ≡ cond t (Some g) (coded c fs)) →
             cond u (Some f) (coded c (changed 0 (λ f. g) fs)) ≡ cond t (Some g) (cond u (Some f) (coded c fs))
         by true i u j t l o h = cc
-        by false i true j true l o h = absurd (false≢true (sym i ∙ eq-eqb f.code g.code (eqb-true f.code c j ∙ sym (eqb-true g.code c l))))
+        by false i true j true l o h = let e = eq-eqb f.code g.code (eqb-true f.code c j ∙ sym (eqb-true g.code c l)) in cc
         by false i true j false l o h = refl
         by false i false j t l o h = h o
 

@@ -1,7 +1,7 @@
 -- Memory that stands for a history: each call replies what is stated, and leaves memory that stands for the history with one event more.
 use Rattle.std.proofs.Common.{◌≡◌, ℕ, suc, ◌+◌, ◌-◌, ◌<◌, ◌≤◌, Bool, true, false, cond, not, ◌||◌, eqb, ltb, nat_le, ◌⊎◌, List, [], ◌∷◌, ◌++◌, map, length, get_or, drop, replicate, is_some, Some, None, Option, sym, refl, ap, ◌∙◌, subst, inl, inr, arith, length-append}
 use Rattle.std.proofs.lemmas.List.{append_assoc, get_or_past}
-use Rattle.std.proofs.lemmas.Bool.{cases_lt, eq-eqb, ne_eqb, eqb-true, eqb-false, leb-true, leb-false, ltb-false, or_parts, not-false, false≢true}
+use Rattle.std.proofs.lemmas.Bool.{cases_lt, eq-eqb, ne_eqb, eqb-true, eqb-false, leb-true, leb-false, ltb-false, or_parts, not-false}
 use Rattle.std.specs.Option.{option_map}
 use Rattle.refusal.specs.Replies.{Reply, given, declined, and_then, refuse_if, mapped as through}
 use Rattle.question.specs.Reading.{reading}
@@ -134,7 +134,7 @@ module _ (w : Setting) (x before : List ℕ) (past : Past) (s : State Meaning) (
     where
       by : (o : Option Restorer) → is_some o ≡ false → option_map (filing c) o ≡ None
       by None i = refl
-      by (Some r) i = absurd (false≢true (sym i))
+      by (Some r) i = cc
 
   new_folder : (o : Offer) (c : ℕ) (t : Bool) → eqb o.code c ≡ t → cond t (Some (offered o)) (option_map (filing c) (known past c)) ≡ option_map (filing c) (cond t (Some (fresh o)) (known past c))
   new_folder o c true e =
@@ -275,7 +275,7 @@ none_below : (n : ℕ) (p : ℕ → Bool) (k : ℕ) → some_below n p ≡ false
 none_below n p k e l = by (p k) refl
   where
     by : (t : Bool) → p k ≡ t → p k ≡ false
-    by true i = absurd (false≢true (sym e ∙ below_some n p k l i))
+    by true i = let j = below_some n p k l i in cc
     by false i = i
 
 pub made : (count : ℕ) (tops sheet : List ℕ) (b d : Bool) (c : Cabinet) → given c ≡ refuse_if b 1 (refuse_if d 2 (given (record { sheet = sheet; count = count; tops = tops; used = 0 }))) →

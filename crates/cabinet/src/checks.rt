@@ -1,5 +1,4 @@
 ghost use Rattle.std.specs.Prelude.{◌≡◌, ◌-◌, length, MatchResult, nat_lt};
-ghost use Rattle.std.specs.Str.{bytes_eq};
 ghost use Rattle.history.specs.Judging.{fitting};
 ghost use Rattle.cabinet.specs.Inner.{Found, Missing};
 

@@ -1,6 +1,6 @@
 -- Checks in their order: what a reply tells of them.
 use Rattle.std.proofs.Common.{◌≡◌, ℕ, zero, suc, ◌<◌, Bool, true, false, ◌&&◌, ◌||◌, nat_le, ◌⊎◌, List, length, None, Option, sym, refl, ap, ◌∙◌, inl, inr, ⊎_elim, arith}
-use Rattle.std.proofs.lemmas.Bool.{false≢true, and_from, le-leb, or_cases, or_left, or_right, cases_eq}
+use Rattle.std.proofs.lemmas.Bool.{and_from, le-leb, or_cases, or_left, or_right, cases_eq}
 use Rattle.refusal.specs.Replies.{Reply, given, declined, and_then, refuse_if}
 use Rattle.question.specs.Expressions.{longest, Expression, written}
 use Rattle.question.specs.Laws.{Told, asked, long, wrong, over}
@@ -78,7 +78,7 @@ refused (given x) false false false v k p u e = cc
 -- a test of some number below n
 pub some_below_reached : (n : ℕ) (p : ℕ → Bool) → some_below n p ≡ true → (k : ℕ) × (p k ≡ true)
 unfolding some_below
-some_below_reached zero p h = absurd (false≢true h)
+some_below_reached zero p h = cc
 some_below_reached (suc n) p h = ⊎_elim (λ e. some_below_reached n p e) (λ e. (n, e)) (or_cases (some_below n p) (p n) h)
 
 pub below_some : (n : ℕ) (p : ℕ → Bool) (k : ℕ) → k < n → p k ≡ true → some_below n p ≡ true

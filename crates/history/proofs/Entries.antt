@@ -2,7 +2,7 @@
 use Rattle.std.proofs.Common.{◌≡◌, ℕ, ◌+◌, ◌-◌, ◌≤◌, Bool, true, false, cond, not, eqb, nat_le, ◌⊎◌, List, [], ◌∷◌, ◌++◌, length, drop, is_some, Some, None, Option, sym, refl, ap, ◌∙◌, inl, inr, arith, length-append}
 use Rattle.std.proofs.ByRecursion.{All-append, All-push, All-weaker}
 use Rattle.std.proofs.lemmas.List.{append_assoc, append-nil, take_at, drop_at, drop-drop, length-drop}
-use Rattle.std.proofs.lemmas.Bool.{false≢true, and_from, le-leb, ltb-false, or_parts, eqb-false}
+use Rattle.std.proofs.lemmas.Bool.{and_from, le-leb, ltb-false, or_parts, eqb-false}
 use Rattle.std.specs.List.{AllByRecursion}
 use Rattle.refusal.specs.Replies.{given, declined, refuse_if}
 use Rattle.question.specs.Expressions.{greatest}
@@ -54,10 +54,10 @@ answer_fits w x past c q a (Some r) e =
 refusal_fits : (w : Setting) (x : List ℕ) (past : Past) (c : ℕ) (q : List ℕ) (k : ℕ) (t : Bool) → declines k ≡ t →
     Refused (reading q) (short w past (line c (answers q x) q)) k → AllByRecursion (Fitting w past) (cond t (refused-line c k q ∷ []) [])
 refusal_fits w x past c q k false d r = tt
-refusal_fits w x past c q k true d (no_code i) = absurd (false≢true (sym (ap declines i) ∙ d))
-refusal_fits w x past c q k true d (no_question (inl i)) = absurd (false≢true (sym (ap declines i) ∙ d))
-refusal_fits w x past c q k true d (no_question (inr i)) = absurd (false≢true (sym (ap declines i) ∙ d))
-refusal_fits w x past c q k true d (no_room i) = absurd (false≢true (sym (ap declines i) ∙ d))
+refusal_fits w x past c q k true d (no_code i) = let e = ap declines i in cc
+refusal_fits w x past c q k true d (no_question (inl i)) = let e = ap declines i in cc
+refusal_fits w x past c q k true d (no_question (inr i)) = let e = ap declines i in cc
+refusal_fits w x past c q k true d (no_room i) = let e = ap declines i in cc
 refusal_fits w x past c q k true d (later e i l n) =
     (record { valid = and_from (sized (length q)) (declines k) (read_size q e i) d; room = fits w past (line c (answers q x) q) l }, tt)
 
@@ -129,7 +129,7 @@ fits_room w x (e ∷ past) fol = by (lines e) (one_line e) (lines_fit w x past e
     by [] o f l i = omega arith
     by (m ∷ []) o f l i = let r = f.0.room in let n : length (encode m ++ []) ≡ length (encode m) = ap length (append-nil (encode m)) in omega arith
     by (m ∷ n ∷ ls) (inl j) f l i = cc
-    by (m ∷ n ∷ ls) (inr j) f l i = absurd (let k = j.1 in let z : ◌≡◌ {A = ℕ} 0 1 = cc in omega arith)
+    by (m ∷ n ∷ ls) (inr j) f l i = let k = j.1 in cc
 
 -- no code that was enrolled is 0
 pub codes_taken : (w : Setting) (x : List ℕ) (h : Past) → Follows w x h → AllByRecursion (λ c. c ≡ 0 → ⊥) (codes h)

@@ -3,7 +3,7 @@ use Rattle.std.proofs.Common.{◌≡◌, ℕ, ◌-◌, Bool, true, false, cond, 
 use mathlib.Core.List.Memᴰ.{head as here}
 use mathlib.Core.List.Memᴰ.{tail as before}
 use mathlib.Core.List.{Memᴰ as Among}
-use Rattle.std.proofs.lemmas.Bool.{false≢true, or_parts, eqb-true, le-ltb}
+use Rattle.std.proofs.lemmas.Bool.{or_parts, eqb-true, le-ltb}
 use Rattle.std.specs.Option.{option_map}
 use Rattle.refusal.specs.Replies.{Reply, given, declined, refuse_if}
 use Rattle.question.specs.Expressions.{Expression}
@@ -64,7 +64,7 @@ read q i = by (reading q) i
   where
     by : (o : Reply Expression) → read_or false (λ e. true) o ≡ true → (e : Expression) × (o ≡ given e)
     by (given e) i = (e, refl)
-    by (declined k p) i = absurd (false≢true i)
+    by (declined k p) i = cc
 
 -- only the last check is left
 last : (w : Setting) (x : List ℕ) (h : Past) (c : ℕ) (r : Restorer) (q : List ℕ) → Follows w x h → known h c ≡ Some r → Passes w h r q →
@@ -133,7 +133,7 @@ module _ (w : Setting) (x y : List ℕ) where
       by true o e = e
       by false None e = e
       by false (Some r) e =
-          ⊎_elim (λ (f : (v : ℕ) → judged w past c r q v ≡ given v). absurd (let i = f (answers q x) in let z : ◌≡◌ {A = ℕ} 0 1 = cc in omega arith)) (λ f. e ∙ f.2 (answers q x) ∙ sym (f.2 (answers q y)))
+          ⊎_elim (λ (f : (v : ℕ) → judged w past c r q v ≡ given v). let i = f (answers q x) in cc) (λ f. e ∙ f.2 (answers q x) ∙ sym (f.2 (answers q y)))
           (alone (reading q) (short w past (line c (answers q x) q)) (not (r.start.carries r.heard q)) (telling (held r) q r.n r.d))
 
   earlier : (e : Event) (past : Past) → Alike x y (e ∷ past) → Alike x y past

@@ -1,6 +1,6 @@
 -- What holds of every restorer, from his enrolment on and through every answer.
-use Rattle.std.proofs.Common.{◌≡◌, ℕ, ◌*◌, ◌<◌, ◌≤◌, Bool, true, false, cond, not, ◌&&◌, ◌||◌, eqb, nat_le, ◌⊎◌, List, [], ◌∷◌, is_some, Some, None, Option, sym, refl, ap, ◌∙◌, subst, inl, inr, mul-le-mul_right, zero-mul, arith}
-use Rattle.std.proofs.lemmas.Bool.{both_ways, cases_lt, and_parts, eq-eqb, eqb-true, leb-true, ltb-false, not-false}
+use Rattle.std.proofs.Common.{◌≡◌, ℕ, ◌*◌, ◌<◌, ◌≤◌, Bool, true, false, cond, not, ◌||◌, eqb, nat_le, ◌⊎◌, List, [], ◌∷◌, is_some, Some, None, Option, sym, refl, ap, ◌∙◌, subst, inl, inr, mul-le-mul_right, zero-mul, arith}
+use Rattle.std.proofs.lemmas.Bool.{both_ways, cases_lt, eq-eqb, eqb-true, leb-true, ltb-false, not-false}
 use Rattle.std.proofs.lemmas.Slice.Eq.{bytes_eq-Decides}
 use Rattle.std.proofs.lemmas.List.{append-nil}
 use Rattle.std.specs.Str.{bytes_eq}
@@ -41,10 +41,8 @@ replied w x past c q a e = next (eqb c 0) 6 (asked w x past c q (known past c)) 
 -- the tops of a fitting belief are the cabinet's
 pub fitting_tops : (count : ℕ) (tops : List ℕ) (m : Meaning) → fitting count tops m ≡ true → m.tops ≡ tops
 fitting_tops count tops m e =
-    let a = (and_parts m.sound (eqb m.first 0 && (eqb m.count count && bytes_eq m.tops tops)) e).1 in
-    let b = (and_parts (eqb m.first 0) (eqb m.count count && bytes_eq m.tops tops) a).1 in
-    let c = (and_parts (eqb m.count count) (bytes_eq m.tops tops) b).1 in
-    (bytes_eq-Decides m.tops tops).0 c
+    let same : bytes_eq m.tops tops ≡ true = grind arith in
+    (bytes_eq-Decides m.tops tops).0 same
 
 -- his belief fits the cabinet, he holds no sheet above his threshold, and the sealed sheet keeps a weight
 pub record Fair (w : Setting) (x : List ℕ) (r : Restorer) : Type 0 where
