@@ -1,5 +1,6 @@
 -- All memory that the calls of a cabinet read and change: the cabinet, the folders, the audit. Assumes nothing.
-use Rattle.std.specs.Prelude.{ℕ, ◌+◌, ◌-◌, Bool, cond, List, [], ◌∷◌, map, length, Some, None, Option, ◌==◌, nat_lt}
+use Rattle.std.specs.Prelude.{◌≡◌, ℕ, ◌+◌, ◌-◌, Bool, cond, List, [], ◌∷◌, map, length, Some, None, Option, ◌==◌, nat_lt}
+use Rattle.std.specs.Borrow.{MutBor}
 use Rattle.belief.specs.Meaning.{Meaning}
 use Rattle.audit.specs.Format.{Line, encode}
 use Rattle.audit.specs.Writing.{written}
@@ -28,6 +29,10 @@ abbrev pub understood : {X : Type 0} → (X → Meaning) → State X → State M
 understood means s = record { cabinet = s.cabinet; folders = map (meant means) s.folders; audit = s.audit }
 
 -- ---- folders
+
+-- a register stays over the same entries, those that were lent to it
+abbrev pub Lent : {X : Type 0} → MutBor (List X) → MutBor (List X) → Type 0
+Lent old new = new.ghost_name ≡ old.ghost_name
 
 -- the first folder with a code
 abbrev pub coded : {X : Type 0} → ℕ → List (Folder X) → Option (Folder X)

@@ -2,7 +2,7 @@ ghost use Rattle.std.specs.Prelude.{◌≡◌, ℕ, true, List};
 ghost use Rattle.refusal.specs.Replies.{reply, number_of};
 ghost use Rattle.history.specs.Events.{asks};
 ghost use Rattle.audit.specs.Format.{declines};
-ghost use Rattle.cabinet.specs.Memory.{meant, understood, state};
+ghost use Rattle.cabinet.specs.Memory.{meant, understood, state, Lent};
 ghost use Rattle.cabinet.specs.Calls.{answering, asking, after_asking, Others};
 ghost use Rattle.cabinet.specs.Inner.{Ready};
 ghost use Rattle.cabinet.specs.Standing.{GoesOn};
@@ -33,7 +33,7 @@ impl Cabinet {
         ensures memory { understood B.means (state self.new register.new.entries.now audit.new)
             ≡ after_asking (understood B.means (state self.old register.old.entries.now audit.old)) code question.now (reply result) }
         ensures others { Others code (reply result) register.old.entries.now register.new.entries.now }
-        ensures lent { register.new.entries.ghost_name ≡ register.old.entries.ghost_name }
+        ensures lent { Lent register.old.entries register.new.entries }
         ensures runs { GoesOn (understood B.means (state self.old register.old.entries.now audit.old))
             (asks code question.now (reply result))
             (understood B.means (state self.new register.new.entries.now audit.new)) }

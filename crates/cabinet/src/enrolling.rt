@@ -1,7 +1,7 @@
 ghost use Rattle.std.specs.Prelude.{◌≡◌, IfOk};
 ghost use Rattle.refusal.specs.Replies.{reply};
 ghost use Rattle.history.specs.Events.{enrols};
-ghost use Rattle.cabinet.specs.Memory.{meant, understood, state};
+ghost use Rattle.cabinet.specs.Memory.{meant, understood, state, Lent};
 ghost use Rattle.cabinet.specs.Calls.{enrolling, after_enrolling};
 ghost use Rattle.cabinet.specs.Inner.{Free};
 ghost use Rattle.cabinet.specs.Standing.{GoesOn, offering};
@@ -29,7 +29,7 @@ impl Cabinet {
         ensures result { reply result ≡ enrolling (understood B.means (state self.old register.old.entries.now audit.old)) B.LETTER (meant B.means folder) }
         ensures memory { state self.new register.new.entries.now audit.new
             ≡ after_enrolling (state self.old register.old.entries.now audit.old) B.LETTER folder (reply result) }
-        ensures lent { register.new.entries.ghost_name ≡ register.old.entries.ghost_name }
+        ensures lent { Lent register.old.entries register.new.entries }
         ensures runs { GoesOn (understood B.means (state self.old register.old.entries.now audit.old))
             (enrols (offering B.LETTER (meant B.means folder)) (reply result))
             (understood B.means (state self.new register.new.entries.now audit.new)) }

@@ -1,7 +1,7 @@
 ghost use Rattle.std.specs.Prelude.{◌≡◌, ℕ, List, [], length, drop, IfErr, MatchResult};
 ghost use Rattle.refusal.specs.Replies.{reply};
 ghost use Rattle.history.specs.Events.{Setting, Past};
-ghost use Rattle.cabinet.specs.Memory.{understood, state};
+ghost use Rattle.cabinet.specs.Memory.{understood, state, Lent};
 ghost use Rattle.cabinet.specs.Calls.{making};
 ghost use Rattle.cabinet.specs.Standing.{Stands};
 ghost use Rattle.cabinet.specs.Sessions.{outcome, event, events, left, freed, Turns, Served};
@@ -65,7 +65,7 @@ impl Cabinet {
             ≡ left (understood B.means (state self.old register.old.entries.now audit.old))
             (events B.means B.LETTER calls.now returns.new []) }
         ensures others { drop (length calls.now) returns.new ≡ drop (length calls.now) returns.old }
-        ensures lent { register.new.entries.ghost_name ≡ register.old.entries.ghost_name }
+        ensures lent { Lent register.old.entries register.new.entries }
     {
         // by index: of what is written through a zip with `iter_mut` a proof knows nothing afterwards
         for i in 0..calls.len().min(returns.len()) {
@@ -83,7 +83,7 @@ impl Cabinet {
         ensures turns { Turns (understood B.means (state self.old register.old.entries.now audit.old))
             (event B.means B.LETTER call.now result)
             (understood B.means (state self.new register.new.entries.now audit.new)) }
-        ensures lent { register.new.entries.ghost_name ≡ register.old.entries.ghost_name }
+        ensures lent { Lent register.old.entries register.new.entries }
     {
         match call {
             Call::Enrol(folder) => Return::Enrolled(self.enrol(register, audit, *folder)),
