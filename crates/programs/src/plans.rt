@@ -1,25 +1,16 @@
 ghost use Rattle.std.specs.Prelude.{◌<◌, length, OnOk};
 
+use belief::Span;
 use script::{LineError, NotUnderstood, Words};
 use std::alloc::Global;
 
-// A span with its tops, as a line writes it.
-#[derive(Clone, Copy)]
-pub(crate) struct Span {
-    pub(crate) first: u8,
-    pub(crate) count: u8,
-    pub(crate) tops: [u8; 4],
-}
-
-impl Span {
-    // FIRST COUNT T0 T1 T2 T3
-    fn read(words: &mut Words<'_>) -> Result<Span, NotUnderstood> {
-        Ok(Span {
-            first: words.number()?,
-            count: words.number()?,
-            tops: words.four_bytes()?,
-        })
-    }
+// FIRST COUNT T0 T1 T2 T3
+fn read_span(words: &mut Words<'_>) -> Result<Span, NotUnderstood> {
+    Ok(Span {
+        first: words.number()?,
+        count: words.number()?,
+        tops: words.four_bytes()?,
+    })
 }
 
 // What a plan has any number of.
@@ -71,7 +62,7 @@ impl<T: Item> Plan<T> {
         name: &[u8],
     ) -> Result<Plan<T>, LineError> {
         words.expect(name)?;
-        let span = Span::read(words)?;
+        let span = read_span(words)?;
         let mut items = Vec::new(heap);
         while !part_ends(words) {
             items.push(T::read(words)?)?;

@@ -43,7 +43,7 @@ greatest xs = ap (λ z. unwrap_or (reduce (λ p z. max_by_ordering (nat_cmp p z)
     map_id (x ∷ xs) = ap (λ z. x ∷ z) (map_id xs)
 
 -- a copy stands before what was there
-pub front : (xs ys zs : List ℕ) → xs ≡ zs → take (length zs) (xs ++ ys) ≡ zs
+front : (xs ys zs : List ℕ) → xs ≡ zs → take (length zs) (xs ++ ys) ≡ zs
 front xs ys zs e = ap (λ z. take (length zs) (z ++ ys)) e ∙ take_at zs ys _ refl
 
 -- ---- shares from a sheet on

@@ -151,6 +151,9 @@ module _ (f c : ℕ) (tops list : List ℕ) (g : Good f c tops list) where
   shape : Shape f c tops
   shape = shape_of f c tops g.four is_shaped
 
+  pub made_few : length list ≤ 1024
+  made_few = let l = long in let s = shape.small in omega arith
+
   made_sound : (tabled f c tops list).sound ≡ true
   made_sound =
       let t : sum_of tops (weight_in f c tops list) ≡ sum list = sym (sum_in_order tops (weight_in f c tops list)) ∙ ap sum (sym (in_order_again f c tops shape list long)) in

@@ -1,5 +1,5 @@
 // How a table is made.
-ghost use Rattle.std.specs.Prelude.{◌≡◌, ◌≤◌, false, length, take, IfOk};
+ghost use Rattle.std.specs.Prelude.{◌≡◌, false, IfOk};
 ghost use Rattle.refusal.specs.Replies.{reply};
 ghost use Rattle.belief.specs.Calls.{seen};
 ghost use Rattle.table.specs.Tables.{good_weight, good_weights, good_list, table_made, meaning, Filled};
@@ -7,6 +7,7 @@ ghost use Rattle.table.specs.Tables.{good_weight, good_weights, good_list, table
 use crate::held::{PLACES, Table};
 use crate::places::size_of;
 use belief::Span;
+use question::padded;
 use refusal::Refusal;
 
 impl Table {
@@ -21,7 +22,7 @@ impl Table {
         }
         Ok(Table {
             span,
-            weights: copied(weights),
+            weights: padded(0, weights),
         })
     }
 }
@@ -55,14 +56,4 @@ fn good_weights(list: &[u32]) -> bool
     ensures { result ≡ good_weights list.now }
 {
     list.iter().all(|w| (1..=65_535).contains(w))
-}
-
-// The weights, and 0 after them.
-fn copied(list: &[u32]) -> [u32; PLACES]
-    requires { length list.now ≤ 1024 }
-    ensures { take (length list.now) result ≡ list.now }
-{
-    let mut all = [0; PLACES];
-    all[0..list.len()].copy_from_slice(list);
-    all
 }
