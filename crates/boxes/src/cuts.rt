@@ -46,6 +46,7 @@ fn hand_pieces<T: Taker>(steps: &[Step], b: WeightedBox, out: &mut T)
     };
     let k = usize::from(step.field);
     if is_cut(b.sides, k, step.bound) {
+        // Kept as a cast: a bound that cuts a side fits a byte, and u8::try_from would bring a case that cannot come.
         let v = step.bound as u8;
         let x = b.sides[k];
         hand_pieces(rest, with_side(b, k, Side { high: v - 1, ..x }), out);

@@ -34,8 +34,7 @@ impl Boxes {
         if !good_factor(factor) {
             return Err(Refusal::Amount);
         }
-        // by a cast: with `u64::from` the proof of the reply did not close
-        let list = self.pressed(sides_between(lowest, highest), factor as u64);
+        let list = self.pressed(sides_between(lowest, highest), u64::from(factor));
         if !has_room(&list) {
             return Err(Refusal::Excess);
         }

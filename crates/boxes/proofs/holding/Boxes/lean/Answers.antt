@@ -17,14 +17,14 @@ returns-then-not-has_room-clause-replies c =
     let b = c.args.self.now in
     λ e.
     lean_excess b c.args.lowest c.args.highest c.args.factor (sym c.if-not-good_edges.ensures) (sym c.if-not-good_factor.ensures) (parts b e) _ _ c.sides_between.ensures
-    c.pressed-list.ensures c.if-not-has_room.ensures.is
+    (rw c.from.ensures at c.pressed-list.ensures) c.if-not-has_room.ensures.is
 
 pub returns-clause-replies : goal.returns-clause-replies
 returns-clause-replies c =
     let b = c.args.self.now in
     λ e.
     lean_ok b c.args.lowest c.args.highest c.args.factor (sym c.if-not-good_edges.ensures) (sym c.if-not-good_factor.ensures) (parts b e) _ _ c.sides_between.ensures
-    c.pressed-list.ensures c.if-not-has_room.ensures.is
+    (rw c.from.ensures at c.pressed-list.ensures) c.if-not-has_room.ensures.is
 
 pub returns-clause-leaves : goal.returns-clause-leaves
 unfolding held
@@ -33,7 +33,7 @@ returns-clause-leaves c =
     λ e.
     ap (boxed b.span.first b.span.count b.span.tops)
     (lean_held b c.args.lowest c.args.highest c.args.factor (sym c.if-not-good_edges.ensures) (sym c.if-not-good_factor.ensures) (parts b e) _ _ c.sides_between.ensures
-    c.pressed-list.ensures c.if-not-has_room.ensures.is)
+    (rw c.from.ensures at c.pressed-list.ensures) c.if-not-has_room.ensures.is)
 
 pub returns-clause-leans : goal.returns-clause-leans
 unfolding held
@@ -41,4 +41,4 @@ returns-clause-leans c =
     let b = c.args.self.now in
     λ e.
     leans b c.args.lowest c.args.highest c.args.factor (sym c.if-not-good_edges.ensures) (sym c.if-not-good_factor.ensures) (parts b e) _ _ c.sides_between.ensures
-    c.pressed-list.ensures c.if-not-has_room.ensures.is
+    (rw c.from.ensures at c.pressed-list.ensures) c.if-not-has_room.ensures.is
