@@ -58,15 +58,21 @@ fn theorems() -> u8 {
 fn main(rt: HostRuntime) -> io::Result<()> {
     let theorems = theorems();
     println!(rt; "theorems: {theorems}")?;
-    for name in WEIGHED {
+    run_each(&rt, &WEIGHED, programs::weigh_script)?;
+    run_each(&rt, &SERVED, programs::serve_script)
+}
+
+// Runs a program on each script that is named.
+fn run_each<P: Fn(&HostRuntime, &[u8]) -> io::Result<()>>(
+    rt: &HostRuntime,
+    names: &[&str],
+    program: P,
+) -> io::Result<()>
+    requires { P.IsAlwaysCallable program }
+{
+    for name in names {
         println!(rt; "== {name}")?;
-        let text = fs::read(&rt, name)?;
-        programs::weigh_script(&rt, text.as_slice())?;
-    }
-    for name in SERVED {
-        println!(rt; "== {name}")?;
-        let text = fs::read(&rt, name)?;
-        programs::serve_script(&rt, text.as_slice())?;
+        program(rt, &fs::read(rt, *name)?)?;
     }
     Ok(())
 }
