@@ -5,7 +5,7 @@ use Rattle.std.proofs.lemmas.Bool.{cases_lt}
 use Rattle.belief.proofs.Fours.{four_of, fours}
 use Rattle.table.specs.Places.{size_of, place_of, fits_in}
 use Rattle.table.specs.Walks.{first_sheet, next_sheet}
-use Rattle.table.specs.Folds.{sheet_at}
+use Rattle.table.specs.Folds.{and_true, sheet_at}
 use Rattle.table.specs.Order.{fits_at, sheet_place}
 
 -- a sheet within the tops with so many sheets before it
@@ -17,10 +17,6 @@ pub record Stands (tops s : List ℕ) (i : ℕ) : Type 0 where
 pub size_four : (xs : List ℕ) → length xs ≡ 4 → (get_or xs 0 0 + 1) * ((get_or xs 1 0 + 1) * ((get_or xs 2 0 + 1) * (get_or xs 3 0 + 1))) ≡ size_of xs
 unfolding size_of
 size_four xs h = ap (λ z. (get_or xs 0 0 + 1) * ((get_or xs 1 0 + 1) * ((get_or xs 2 0 + 1) * z))) (sym (mul-one (get_or xs 3 0 + 1))) ∙ ap size_of (sym (fours xs h))
-
-and_true : (b : Bool) → (b && true) ≡ b
-and_true true = refl
-and_true false = refl
 
 pub fits_four : (xs ys : List ℕ) → length xs ≡ 4 → length ys ≡ 4 →
     (nat_le (get_or ys 0 0) (get_or xs 0 0) && (nat_le (get_or ys 1 0) (get_or xs 1 0) && (nat_le (get_or ys 2 0) (get_or xs 2 0) && nat_le (get_or ys 3 0) (get_or xs 3 0)))) ≡ fits_in xs ys

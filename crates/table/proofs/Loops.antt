@@ -1,5 +1,5 @@
 -- The weights of a table and the shares of an answer, in the order of the sheets.
-use Rattle.std.proofs.Common.{◌≡◌, ℕ, zero, suc, ◌+◌, ◌*◌, ◌<◌, ◌≤◌, min, max, Bool, true, false, cond, ◌&&◌, eqb, List, [], ◌∷◌, ◌++◌, map, length, get_or, take, sym, refl, ap, ◌∙◌, subst, arith, length-take, get_or-take, take-suc, nat_le, zero-add}
+use Rattle.std.proofs.Common.{◌≡◌, ℕ, zero, suc, ◌+◌, ◌*◌, ◌<◌, ◌≤◌, min, max, Bool, true, false, cond, ◌&&◌, eqb, List, [], ◌∷◌, ◌++◌, length, get_or, take, sym, refl, ap, ◌∙◌, subst, arith, length-take, get_or-take, take-suc, nat_le, zero-add}
 use Rattle.std.specs.List.{sum, fold, reduce, list_all}
 use Rattle.std.specs.Option.{unwrap_or}
 use Rattle.std.specs.Ordering.{max_by_ordering, nat_cmp}
@@ -7,21 +7,17 @@ use Rattle.std.proofs.Math.Seq.{take-length}
 use Rattle.std.proofs.lemmas.List.Elements.{All-from_get_or}
 use Rattle.std.proofs.lemmas.List.Folds.{list_all-append, max_of_map}
 use Rattle.std.proofs.lemmas.List.Sums.{sum_by-le}
-use Rattle.std.proofs.lemmas.List.{take_at}
+use Rattle.std.proofs.lemmas.List.{map-id, take_at}
 use Rattle.question.specs.Questions.{all_below, answers}
 use Rattle.belief.specs.Meaning.{Meaning, kept, total_of, peak_of, whole_of, mass_of, heaviest_of}
 use Rattle.table.specs.declared.held.Table.{Table}
 use Rattle.table.specs.Places.{in_order, size_of, place_of, fits_in}
 use Rattle.table.specs.Tables.{meaning}
 use Rattle.table.specs.Walks.{Shaped, first_sheet, next_sheet, shares_from}
-use Rattle.table.specs.Folds.{sheet_at, sum_in_order, max_in_order, all_in_order}
+use Rattle.table.specs.Folds.{and_true, sheet_at, sum_in_order, max_in_order, all_in_order}
 use Rattle.table.specs.Order.{place_below, sheet_place}
 use Rattle.table.specs.Weights.{Shape, shape_of, weight_at_place, in_order_is}
 use Rattle.table.proofs.Fours.{Stands, stands_first, stands_sheet, next_stands}
-
-and_true : (b : Bool) → (b && true) ≡ b
-and_true true = refl
-and_true false = refl
 
 all_listed : (p : ℕ → Bool) (xs : List ℕ) (n : ℕ) → n ≤ length xs → list_all p (take n xs) ≡ all_below n (λ i. p (get_or xs i 0))
 unfolding all_below
@@ -36,11 +32,7 @@ all_items p xs = ap (list_all p) (sym (take-length xs)) ∙ all_listed p xs (len
 
 -- the greatest item of a list, or 0
 pub greatest : (xs : List ℕ) → unwrap_or (reduce (λ p z. max_by_ordering (nat_cmp p z) p z) xs) 0 ≡ fold max 0 xs
-greatest xs = ap (λ z. unwrap_or (reduce (λ p z. max_by_ordering (nat_cmp p z) p z) z) 0) (sym (map_id xs)) ∙ max_of_map (λ x. x) xs
-  where
-    map_id : (xs : List ℕ) → map (λ x. x) xs ≡ xs
-    map_id [] = refl
-    map_id (x ∷ xs) = ap (λ z. x ∷ z) (map_id xs)
+greatest xs = ap (λ z. unwrap_or (reduce (λ p z. max_by_ordering (nat_cmp p z) p z) z) 0) (sym (map-id xs)) ∙ max_of_map (λ x. x) xs
 
 -- a copy stands before what was there
 front : (xs ys zs : List ℕ) → xs ≡ zs → take (length zs) (xs ++ ys) ≡ zs

@@ -89,7 +89,7 @@ max_in_order ts f =
     over_listed max (fold max 0) (λ xs ys. fold-append max 0 xs ys ∙ max_from (fold max 0 xs) ys) ts (λ s. f s ∷ [])
     ∙ over_cong max ts _ _ (λ s. omega arith)
 
-and_true : (b : Bool) → (b && true) ≡ b
+pub and_true : (b : Bool) → (b && true) ≡ b
 and_true true = refl
 and_true false = refl
 
