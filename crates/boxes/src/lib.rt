@@ -17,14 +17,14 @@ mod taking;
 
 pub use holding::Boxes;
 
-// The worked cases.
+// The worked cases. The number is there to be printed, so that a program shows that it was called.
 pub fn cases_stand() -> u8
     ensures { Hold cases }
 {
     0
 }
 
-// The laws of the definitions.
+// The laws of the definitions, with a number to be printed.
 pub fn laws_stand() -> u8
     ensures combined { Combined }
     ensures sorts { Sorts }

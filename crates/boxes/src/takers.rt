@@ -5,7 +5,7 @@ use ranges::Side;
 
 pub(crate) mod calls;
 
-// How many answers there are.
+// How many answers there are; by a cast, since `From` makes no constant.
 pub(crate) const ANSWERS: usize = GREATEST as usize + 1;
 
 // A question, and the answer to it that is wanted.

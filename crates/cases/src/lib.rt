@@ -4,7 +4,7 @@
 
 ghost use Rattle.cases.specs.Cases.{Cases};
 
-// The cases stand.
+// The cases stand. The number is there to be printed, so that a program shows that it was called.
 pub fn cases_stand() -> u8
     ensures { Cases }
 {

@@ -13,7 +13,7 @@ mod making;
 
 pub use joint::Pair;
 
-// The worked case holds of the definitions.
+// The worked case holds of the definitions. The number is there to be printed, so that a program shows that it was called.
 pub fn cases_stand() -> u8
     ensures { Worked }
 {

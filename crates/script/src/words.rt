@@ -195,5 +195,6 @@ fn longer(n: u32, b: u8, most: u32) -> Option<u32>
     if x > u64::from(most) {
         return None;
     }
+    // a cast, which is proved to fit: `try_from` would tell of an error that cannot come
     Some(x as u32)
 }

@@ -11,7 +11,8 @@ use question::padded;
 use refusal::Refusal;
 
 impl Table {
-    // A table over a span, from one weight for each sheet, the last field moving fastest.
+    // A table over a span, from one weight for each sheet, the last field moving fastest. The span comes as its numbers, since
+    // it is here that they are tested.
     pub fn make(first: u8, count: u8, tops: [u8; 4], weights: &[u32]) -> Result<Table, Refusal>
         ensures makes { seen meaning (reply result) ≡ table_made first count tops weights.now }
         ensures filled { IfOk result (λ t. Filled weights.now (meaning t)) }

@@ -11,7 +11,7 @@ use belief::Span;
 use refusal::Refusal;
 
 impl Boxes {
-    // One box over the whole span, of weight 1.
+    // One box over the whole span, of weight 1. The span comes as its numbers, since it is here that they are tested.
     pub fn fresh(first: u8, count: u8, tops: [u8; 4]) -> Result<Boxes, Refusal>
         ensures makes { seen meaning (reply result) ≡ making first count tops }
         ensures fresh { IfOk result (λ b. Fresh (meaning b)) }
