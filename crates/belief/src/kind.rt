@@ -6,7 +6,8 @@ ghost use Rattle.belief.specs.Calls.{carrying, replied, revising, leaving};
 use refusal::Refusal;
 
 // A kind of belief. Of a belief that is not sound only this is said: that it is not, the letter of its kind, and that a
-// refused revising leaves it as it was; all else that it returns is free.
+// refused revising leaves it as it was; all else that it returns is free. That it is sound is a premise of each clause and no type,
+// which callers would have to make first. First field, count and tops are asked for one by one, as the rules name them.
 pub trait Belief: Copy {
     // The letter of the kind, as it stands in the audit.
     const LETTER: u8;

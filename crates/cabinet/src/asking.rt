@@ -17,7 +17,8 @@ use question::Question;
 use refusal::Refusal;
 use register::Register;
 
-// How many bytes stand before the question in its entry, by the audit's format.
+// How many bytes stand before the question in its entry. The audit states lengths by its format alone, and the contract of `short`
+// is held against that.
 const HEAD: usize = 5;
 
 impl Cabinet {
@@ -90,7 +91,7 @@ impl Cabinet {
     }
 }
 
-// Whether a refusal is written into the audit.
+// Whether a refusal is written into the audit; told by the refusals themselves, where the audit's own test is one of numbers.
 fn is_written(refusal: Refusal) -> bool
     ensures { result ≡ declines (number_of refusal) }
 {

@@ -28,6 +28,7 @@ impl Cabinet {
         ensures { MatchResult result (Found B.means self.now register.now.entries.now code)
             (Missing B.means self.now register.now.entries.now code) }
     {
+        // not by `ok_or`, with which the three proofs that read this get longer
         let Some(at) = register.place(code) else {
             return Err(Refusal::Code);
         };

@@ -12,10 +12,11 @@ pub struct Folder<B> {
     pub belief: B,
 }
 
+// By hand, as each kind's: an impl that a macro of the repository writes is refused.
 impl<B: Belief> Coded for Folder<B> {
     ghost key = { λ f. f.code };
 
-    ghost recoded = { λ c f. record { code = c; threshold = f.threshold; belief = f.belief } };
+    ghost recoded = { λ c f. record f { code = c } };
 
     ghost under = { Prim.search rules };
 

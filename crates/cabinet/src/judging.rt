@@ -48,6 +48,7 @@ pub(crate) fn judge<B: Belief>(
 
 // The mass of an answer to a question that is carried, and its heaviest sheet. Nothing is looked at where no weight is left
 // for it, and no heaviest sheet is sought where the mass is 0. A pair, since its one caller takes it apart at once.
+// That the belief is sound is asked for, since the belief may be one of memory that was handed in.
 #[tactic(auto, using(belief::proofs::Sums::heaviest_mass))]
 fn weighed<B: Belief>(
     belief: &B,

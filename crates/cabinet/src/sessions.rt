@@ -14,7 +14,8 @@ use refusal::Refusal;
 use register::Register;
 
 // Makes a cabinet and a register of folders that are all free, makes the calls in their order, as far as there is a place
-// for the return of each, and gives the cabinet back; 1 or 2, and then all memory is as it was.
+// for the return of each, and gives the cabinet back; 1 or 2, and then all memory is as it was. Calls and returns are two lists, since
+// the one is read and the other written.
 pub fn session<B: Belief>(
     count: u8,
     tops: [u8; 4],

@@ -26,7 +26,7 @@ impl Program for Serving {
     }
 }
 
-// The cabinet and the memory that a script asks for.
+// The cabinet and the memory that a script asks for, as its three lines have them.
 #[derive(Clone, Copy)]
 struct Head {
     count: u8,
@@ -69,7 +69,7 @@ fn read_size(script: &mut Script<'_>, name: &[u8], most: usize) -> Result<usize,
     Ok(size)
 }
 
-// What a line of the script says after the head.
+// What a line of the script says after the head. It owns what a call borrows, and tells of lines that make no call.
 #[derive(Drop)]
 enum Line<B> {
     Enrol(Folder<B>),

@@ -110,7 +110,8 @@ fn print_answers<B: Belief>(rt: &HostRuntime, belief: &B, question: &[u8]) -> io
     Ok(())
 }
 
-// The mass of an answer and its heaviest sheet, if it is possible.
+// The mass of an answer and its heaviest sheet, if it is possible. Judging has the like with a contract, which asks for a carried
+// question; here that is still to be told.
 fn told<B: Belief>(belief: &B, question: &[u8], answer: u8) -> Result<Option<(u64, u64)>, Refusal> {
     let mass = belief.mass(question, answer)?;
     if mass == 0 {

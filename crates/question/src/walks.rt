@@ -1,6 +1,7 @@
 // Walks over the bytes of a question, each from a command to its operands. A command is the character of its byte, told apart by
-// literals; the cast says no less than `char::from`, which each proof would have to see through. What must begin at the bytes is asked
-// of each walk: a type for it would be made anew at each operand, of bytes that the one before it leaves.
+// literals; by a cast, since with `char::from` the proofs of most walks did not close. What must begin at the bytes is asked of each walk:
+// a type for it would be made anew at each operand, of bytes that the one before it leaves. Where a walk stops short it tells how many
+// bytes are left; its one caller makes the place and the refusal of that, which an error made here would have to be taken apart for.
 ghost use Rattle.std.specs.Prelude.{◌≡◌, ℕ, ◌+◌, ◌*◌, ◌<◌, ◌≤◌, List, length, IfSome, if◌then◌else◌, MatchResult, slice_index};
 ghost use Rattle.std.specs.Option.{option_map as seen};
 ghost use Rattle.question.specs.Expressions.{longest, limit, is_zero, applied, limited};
@@ -106,7 +107,8 @@ pub(crate) fn value(bytes: &[u8], sheet: [u8; 4]) -> (i64, &[u8])
     }
 }
 
-// The same for an operand. Most are fields and numbers, and those need no call of `value`. What `value`
+// The same for an operand. Most are fields and numbers, and those need no call of `value`: without this function evaluation took
+// 1.9 times as long when that was measured. What `value`
 // returns is taken apart, so that the compiler keeps a field's or a number's value out of memory.
 #[cycle(operand_value)]
 fn operand(bytes: &[u8], sheet: [u8; 4]) -> (i64, &[u8])

@@ -5,6 +5,7 @@
 
 use std::io;
 
+// Two lines, which each program has for itself.
 fn main(rt: HostRuntime) -> io::Result<()> {
     let text = script::input(&rt)?;
     programs::readback_script(&rt, text.as_slice())

@@ -33,6 +33,7 @@ fn is_sized(word: &[u8]) -> bool
 pub fn hex_digits(heap: Global, word: &[u8]) -> Result<Vec<u8>, LineError>
     ensures { IsReadBy (λ v. v.items) result (pairs word.now) }
 {
+    // a loop, since a push may fail, and two digits make one byte
     let mut bytes = Vec::new(heap);
     let mut rest = word;
     while let [high, low, others @ ..] = rest {

@@ -1,3 +1,6 @@
+ghost use Rattle.std.specs.Prelude.{◌≡◌, Err};
+ghost use Rattle.script.specs.declared.error.LineError.TheVariants.{Failed};
+
 use std::alloc::{AllocError, AllocFailed};
 use std::io;
 
@@ -57,7 +60,9 @@ impl<T: Drop> From<AllocFailed<T>> for LineError {
 
 impl LineError {
     // Prints that line `number` is not understood; what else kept it from being worked through is passed on.
-    pub fn report(self, rt: &HostRuntime, number: usize) -> io::Result<()> {
+    pub fn report(self, rt: &HostRuntime, number: usize) -> io::Result<()>
+        ensures { (e : _) → self ≡ Failed e → result ≡ Err e }
+    {
         match self {
             LineError::NotUnderstood => println!(rt; "line {number}: not understood"),
             LineError::Failed(error) => Err(error),

@@ -15,7 +15,8 @@ fn count_before(text: &[u8], b: u8) -> usize
     text.iter().take_while(|x| **x != b).count()
 }
 
-// How many spaces a text begins with. One function for both would take a test, and its contract would speak of closures.
+// How many spaces a text begins with. In their callers the chains did not prove, and one function for both would take a test, so that
+// its contract spoke of closures.
 fn count_spaces(text: &[u8]) -> usize
     ensures is { result ≡ run 32 text.now }
     ensures within { result ≤ length text.now }
@@ -177,6 +178,7 @@ pub fn decimal(word: &[u8], most: u32) -> Option<u32>
 fn digits(word: &[u8], most: u32) -> Option<u32>
     ensures { result ≡ decimal_from most 0 word.now }
 {
+    // not by `try_fold`, of which the library has no lemma
     let mut n = 0;
     for b in word {
         n = longer(n, *b, most)?;

@@ -1,18 +1,12 @@
 -- Places and sheets of four fields, as the code computes them.
-use Rattle.std.proofs.Common.{◌≡◌, ℕ, ◌+◌, ◌*◌, ◌<◌, ◌≤◌, Bool, true, false, cond, ◌&&◌, nat_le, ltb, List, [], ◌∷◌, length, get_or, sym, refl, ap, ◌∙◌, inl, inr, add-zero, mul-le-mul_right, add-mul, one-mul, mul-one, arith, le-leb, ltb-true, ltb-false}
+use Rattle.std.proofs.Common.{◌≡◌, ℕ, ◌+◌, ◌*◌, ◌<◌, ◌≤◌, Bool, true, false, cond, ◌&&◌, nat_le, ltb, List, [], ◌∷◌, length, get_or, sym, subst, refl, ap, ◌∙◌, inl, inr, add-zero, mul-le-mul_right, add-mul, one-mul, mul-one, arith, le-leb, ltb-true, ltb-false}
 use Rattle.std.specs.List.{list_all, zip}
 use Rattle.std.proofs.lemmas.Bool.{cases_lt}
 use Rattle.belief.proofs.Fours.{four_of, fours}
 use Rattle.table.specs.Places.{size_of, place_of, fits_in}
-use Rattle.table.specs.Walks.{first_sheet, next_sheet}
+use Rattle.table.specs.Walks.{Stands, first_sheet, next_sheet}
 use Rattle.table.specs.Folds.{and_true, sheet_at}
 use Rattle.table.specs.Order.{fits_at, sheet_place}
-
--- a sheet within the tops with so many sheets before it
-pub record Stands (tops s : List ℕ) (i : ℕ) : Type 0 where
-  pub four : length s ≡ 4
-  pub fits : fits_in tops s ≡ true
-  pub place : place_of tops s ≡ i
 
 pub size_four : (xs : List ℕ) → length xs ≡ 4 → (get_or xs 0 0 + 1) * ((get_or xs 1 0 + 1) * ((get_or xs 2 0 + 1) * (get_or xs 3 0 + 1))) ≡ size_of xs
 unfolding size_of
@@ -131,3 +125,7 @@ next_stands xs ys i h s room =
     by false false false true e3 e2 e1 e0 = next_first xs ys i h s (ltb-false _ _ e3) (ltb-false _ _ e2) (ltb-false _ _ e1) room
     by false false false false e3 e2 e1 e0 =
         let l = first_below xs ys i h s (ltb-false _ _ e3) (ltb-false _ _ e2) (ltb-false _ _ e1) room in let g = ltb-false _ _ e0 in absurd (omega arith)
+
+-- so does what equals it
+pub next_law : (xs ys r : List ℕ) → length xs ≡ 4 → r ≡ next_sheet xs ys → (i : ℕ) → Stands xs ys i → i + 1 < size_of xs → Stands xs r (i + 1)
+next_law xs ys r h e i s room = subst (λ z. Stands xs z (i + 1)) (sym e) (next_stands xs ys i h s room)

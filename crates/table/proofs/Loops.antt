@@ -13,11 +13,11 @@ use Rattle.belief.specs.Meaning.{Meaning, kept, total_of, peak_of, whole_of, mas
 use Rattle.table.specs.declared.held.Table.{Table}
 use Rattle.table.specs.Places.{in_order, size_of, place_of, fits_in}
 use Rattle.table.specs.Tables.{meaning}
-use Rattle.table.specs.Walks.{Shaped, first_sheet, next_sheet, shares_from}
+use Rattle.table.specs.Walks.{Stands, Shaped, first_sheet, next_sheet, shares_from}
 use Rattle.table.specs.Folds.{and_true, sheet_at, sum_in_order, max_in_order, all_in_order}
 use Rattle.table.specs.Order.{place_below, sheet_place}
 use Rattle.table.specs.Weights.{Shape, shape_of, weight_at_place, in_order_is}
-use Rattle.table.proofs.Fours.{Stands, stands_first, stands_sheet, next_stands}
+use Rattle.table.proofs.Fours.{stands_first, stands_sheet, next_stands}
 
 all_listed : (p : ℕ → Bool) (xs : List ℕ) (n : ℕ) → n ≤ length xs → list_all p (take n xs) ≡ all_below n (λ i. p (get_or xs i 0))
 unfolding all_below

@@ -17,6 +17,12 @@ pub record Kept (q : List ℕ) (a : ℕ) (t u : Table) : Type 0 where
   pub weights : (s : List ℕ) → length s ≡ 4 → fits_in t.span.tops s ≡ true → place_of t.span.tops s < 1024 →
       slice_index u.weights (place_of t.span.tops s) ≡ cond (answers q s == a) (slice_index t.weights (place_of t.span.tops s)) 0
 
+-- a sheet within the tops with so many sheets before it
+pub record Stands (tops s : List ℕ) (i : ℕ) : Type 0 where
+  pub four : length s ≡ 4
+  pub fits : fits_in tops s ≡ true
+  pub place : place_of tops s ≡ i
+
 -- the sheet with no sheet before it
 abbrev pub first_sheet : List ℕ
 first_sheet = 0 ∷ 0 ∷ 0 ∷ 0 ∷ []

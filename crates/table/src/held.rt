@@ -5,7 +5,8 @@ use belief::Span;
 // How many weights a table has room for.
 pub const PLACES: usize = 1024;
 
-// A weight for each sheet of a span, the last field moving fastest; the places after them are not looked at.
+// A weight for each sheet of a span, the last field moving fastest; the places after them are not looked at. An
+// array of fixed size: a table asks for no memory, and is copied as a value.
 #[derive(Clone, Copy)]
 pub struct Table {
     pub(crate) span: Span,

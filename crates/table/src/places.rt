@@ -1,7 +1,7 @@
 // The sheets of a table in their order.
-ghost use Rattle.std.specs.Prelude.{◌≡◌};
+ghost use Rattle.std.specs.Prelude.{◌≡◌, ℕ, ◌+◌, ◌<◌};
 ghost use Rattle.table.specs.Places.{size_of, place_of, fits_in};
-ghost use Rattle.table.specs.Walks.{next_sheet};
+ghost use Rattle.table.specs.Walks.{Stands, next_sheet};
 
 // How many sheets there are. The four counts are written out: the check knows no bound for a product over an iterator.
 pub fn size_of(tops: [u8; 4]) -> usize
@@ -35,7 +35,8 @@ pub fn fits_in(tops: [u8; 4], sheet: [u8; 4]) -> bool
 // The sheet after a sheet, and the first one after the last.
 #[tactic(auto, unfolding(crate::specs::Walks::next_sheet))]
 pub fn next(tops: [u8; 4], sheet: [u8; 4]) -> [u8; 4]
-    ensures { result ≡ next_sheet tops sheet }
+    ensures is { result ≡ next_sheet tops sheet }
+    ensures stands { (i : ℕ) → Stands tops sheet i → i + 1 < size_of tops → Stands tops result (i + 1) }
 {
     let [a, b, c, d] = tops;
     let [v, w, x, y] = sheet;

@@ -1,4 +1,5 @@
-// The walks over the weights of a table, and over its sheets.
+// The walks over the weights of a table, and over its sheets. That a table is shaped is a premise here and no type: the empty one, of
+// which memory is filled, is not. Question and answer come as the interface of beliefs has them, and are held once, in `Shares`.
 ghost use Rattle.std.specs.Prelude.{◌≡◌, ◌^◌, ◌<◌, ◌≤◌, min, length, take, sum, if◌then◌else◌, nat_eq};
 ghost use Rattle.refusal.specs.Replies.{reply, mapped};
 ghost use Rattle.question.specs.Questions.{answers};

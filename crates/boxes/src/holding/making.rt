@@ -23,7 +23,7 @@ impl Boxes {
     }
 }
 
-// No boxes, so they are not sound: a value to fill memory with.
+// No boxes, so they are not sound: a value to fill memory with. Its span is written out, since an empty span is good for nothing else.
 impl Default for Boxes {
     ghost is_default = { Blank };
 

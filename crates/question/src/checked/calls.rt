@@ -77,7 +77,8 @@ impl Question {
         mentions(self.text(), k)
     }
 
-    // Whether all fields that are read lie in a span; it is walked through for the fields outside the span alone.
+    // Whether all fields that are read lie in a span; it is walked through for the fields outside the span alone. A span's tops are
+    // nothing to a question, so the two numbers come alone.
     pub fn reads_in(&self, first: u8, count: u8) -> bool
         ensures { result ≡ reads_in first count (text self.now) }
     {
@@ -121,7 +122,7 @@ fn check(bytes: &[u8]) -> Result<(), Refusal>
 // The greatest answer as a value, by a cast: `From` makes no constant.
 const MOST: i64 = GREATEST as i64;
 
-// A value as an answer.
+// A value as an answer; by a cast, which is proved to fit.
 fn clamp(value: i64) -> u8
     ensures { result ≡ clamped value }
 {
