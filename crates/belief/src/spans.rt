@@ -14,7 +14,7 @@ pub const MOST_TOTAL: u64 = 1 << 40;
 pub fn good_total(total: u64) -> bool
     ensures { result ≡ good_total total }
 {
-    (1 <= total) & (total <= MOST_TOTAL)
+    (1..=MOST_TOTAL).contains(&total)
 }
 
 // A first field and a count of fields, and the greatest value of each of the four fields.

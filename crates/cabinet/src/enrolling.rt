@@ -70,9 +70,7 @@ impl Cabinet {
         if *code == 0 || register.place(*code).is_some() {
             return Err(Refusal::Code);
         }
-        let Some(at) = register.free_place() else {
-            return Err(Refusal::Full);
-        };
+        let at = register.free_place().ok_or(Refusal::Full)?;
         if !self.fits(belief) {
             return Err(Refusal::Unfit);
         }

@@ -74,6 +74,7 @@ impl Belief for Boxes {
     fn revise(&mut self, question: &[u8], answer: u8) -> Result<(), Refusal> {
         let question = Question::read(question)?;
         let wanted = Wanted { question, answer };
+        // not by `ok_or`, with which each answer of the proof takes the tally out of its `Option` again
         let Some(tally) = self.tally(wanted) else {
             return Err(Refusal::NotCarried);
         };
