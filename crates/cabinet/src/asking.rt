@@ -11,15 +11,11 @@ ghost use Rattle.cabinet.specs.declared.folders.Folder.{Folder};
 use crate::cabinets::Cabinet;
 use crate::folders::Folder;
 use crate::judging::judge;
-use audit::Entry;
+use audit::{Entry, HEAD};
 use belief::Belief;
 use question::Question;
 use refusal::Refusal;
 use register::Register;
-
-// How many bytes stand before the question in its entry. The audit states lengths by its format alone, and the contract of `short`
-// is held against that.
-const HEAD: usize = 5;
 
 impl Cabinet {
     // Answers a question, if the restorer with the code may hear the answer.

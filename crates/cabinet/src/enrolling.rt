@@ -8,14 +8,10 @@ ghost use Rattle.cabinet.specs.Standing.{GoesOn, offering};
 
 use crate::cabinets::Cabinet;
 use crate::folders::Folder;
-use audit::Entry;
+use audit::{ENROLMENT, Entry};
 use belief::Belief;
 use refusal::Refusal;
 use register::Register;
-
-// How many bytes the entry of an enrolment has. The audit states lengths by its format alone, and the contract of `short` is
-// held against that.
-const ENROLMENT: usize = 8;
 
 impl Cabinet {
     // Enrols a restorer in the first free place, which is returned.
