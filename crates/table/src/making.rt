@@ -28,7 +28,7 @@ impl Table {
     }
 }
 
-// An empty table, which is not sound.
+// An empty table, which is not sound. Its span is written out, since an empty span is good for nothing else.
 impl Default for Table {
     ghost is_default = { λ t. (meaning t).sound ≡ false };
 
