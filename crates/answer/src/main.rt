@@ -11,8 +11,8 @@ ghost use Rattle.question.specs.Questions.{answers};
 
 use question::Question;
 use refusal::Refusal;
-use script::{LineError, Lines, Words, passed_over};
-use std::alloc::Global;
+use script::{LineError, Lines, Words, hex, passed_over};
+use std::alloc::{AllocError, Global};
 use std::io;
 
 fn main(rt: HostRuntime) -> anyhow::Result<()> {
@@ -26,17 +26,13 @@ fn run(rt: &HostRuntime) -> anyhow::Result<()> {
         if passed_over(line) {
             continue;
         }
-        if let Err(error) = try_line(rt, line) {
-            error.report(rt, number)?;
+        match Trial::read(rt.alloc(), line) {
+            Ok(trial) => show(rt, answer(&trial.bytes, trial.sheet))?,
+            Err(LineError::NotUnderstood) => LineError::NotUnderstood.report(rt, number)?,
+            // a reading fails of nothing but memory, which is told as the library tells it
+            Err(LineError::Failed(_)) => return Err(AllocError.into()),
         }
     }
-    Ok(())
-}
-
-// Prints the answer that a line of the script asks for.
-fn try_line(rt: &HostRuntime, line: &[u8]) -> Result<(), LineError> {
-    let trial = Trial::read(rt.alloc(), line)?;
-    show(rt, answer(&trial.bytes, trial.sheet))?;
     Ok(())
 }
 
@@ -52,8 +48,9 @@ impl Trial {
     fn read(heap: Global, line: &[u8]) -> Result<Trial, LineError> {
         let mut words = Words { rest: line };
         let sheet = words.four_bytes()?;
-        let bytes = words.bytes(heap)?;
+        let word = words.word()?;
         words.end()?;
+        let bytes = hex(heap, word)?;
         Ok(Trial { sheet, bytes })
     }
 }

@@ -107,7 +107,13 @@ part_at g (x ∷ xs) (suc k) = ap (λ z. x ∷ z) (part_at g xs k)
 two : (a b : ℕ) → a ≤ 256 → b ≤ 256 → a * b ≤ 65536
 two a b h k = mul-le-mul {n₁ = a} {m₁ = b} {n₂ = 256} {m₂ = 256} h k
 
-pub products : (a b c d : ℕ) → a ≤ 256 → b ≤ 256 → c ≤ 256 → d ≤ 256 → a * (b * (c * d)) ≤ 2 ^ 32
+pub record Products (a b c d : ℕ) : Type 0 where
+  pub second : c * d ≤ 65536
+  pub third : b * (c * d) ≤ 16777216
+  pub fourth : a * (b * (c * d)) ≤ 2 ^ 32
+
+pub products : (a b c d : ℕ) → a ≤ 256 → b ≤ 256 → c ≤ 256 → d ≤ 256 → Products a b c d
 products a b c d h k l m =
     let x = two c d l m in
-    let y = mul-le-mul {n₁ = b} {m₁ = c * d} {n₂ = 256} {m₂ = 65536} k x in mul-le-mul {n₁ = a} {m₁ = b * (c * d)} {n₂ = 256} {m₂ = 16777216} h y
+    let y = mul-le-mul {n₁ = b} {m₁ = c * d} {n₂ = 256} {m₂ = 65536} k x in
+    record { second = x; third = y; fourth = mul-le-mul {n₁ = a} {m₁ = b * (c * d)} {n₂ = 256} {m₂ = 16777216} h y }

@@ -50,7 +50,7 @@ pub entire_small : (ts : List ℕ) → length ts ≡ 4 → get_or ts 0 0 < 256 �
 unfolding width entire
 entire_small ts l a b d e =
     let v = ap volume (sym (ap entire (fours 0 ts l))) ∙ sym (four_volume _ refl) in
-    let p = products (get_or ts 0 0 + 1 - 0) (get_or ts 1 0 + 1 - 0) (get_or ts 2 0 + 1 - 0) (get_or ts 3 0 + 1 - 0) (omega arith) (omega arith) (omega arith) (omega arith) in omega arith
+    let p = (products (get_or ts 0 0 + 1 - 0) (get_or ts 1 0 + 1 - 0) (get_or ts 2 0 + 1 - 0) (get_or ts 3 0 + 1 - 0) (omega arith) (omega arith) (omega arith) (omega arith)).fourth in omega arith
 
 module _ (f c : ℕ) (tops : List ℕ) (s : good_span f c ≡ true) (z : zero_outside f c tops ≡ true) (l : length tops ≡ 4) (small : volume (entire tops) ≤ 2 ^ 32) where
   single_sound : Tested f c tops (single tops)

@@ -1,6 +1,7 @@
 -- Bytes that are a question, as the walks over them want them.
-use Rattle.std.proofs.Common.{◌≡◌, ℕ, sym, ◌∙◌, true, false, List, [], refl, ap}
-use Rattle.refusal.specs.Replies.{Reply, given, declined}
+use Rattle.std.proofs.Common.{◌≡◌, ℕ, sym, ◌∙◌, true, false, List, [], IfOk, Ok, Err, Result, refl, ap}
+use Rattle.refusal.specs.Replies.{Reply, given, declined, reply}
+use Rattle.refusal.specs.declared.list.Refusal.{Refusal}
 use Rattle.question.specs.declared.checked.Question.{Question}
 use Rattle.question.specs.Expressions.{Expression, mentions}
 use Rattle.question.specs.Reading.{reading}
@@ -24,6 +25,10 @@ asked q h = accepted q (asked_by (reading q) h)
 pub asks : (q : List ℕ) → given tt ≡ checked (reading q) → is_question q ≡ true
 unfolding is_question
 asks q h = ap (read_or false (λ e. true)) (accepted q h).reads
+
+pub asked_if_ok : (q : List ℕ) (r : Result (Unit {0}) Refusal) → reply r ≡ checked (reading q) → IfOk r (λ _. is_question q ≡ true)
+asked_if_ok q (Ok u) h = asks q h
+asked_if_ok q (Err e) h = tt
 
 -- what a question holds was accepted
 pub held : (q : Question) → Accepted (text q)

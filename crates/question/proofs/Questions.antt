@@ -62,6 +62,10 @@ refused_by bs {n} {p} (declined m q) h = let y : m ≡ n = cc in let z : q ≡ p
 pub read_refused : (bs : List ℕ) {n : ℕ} {p : Option ℕ} → declined n p ≡ mapped (λ e. bs) (reading bs) → reading bs ≡ declined n p
 read_refused bs h = refused_by bs (reading bs) h
 
+pub refused_asks : (bs : List ℕ) {n : ℕ} {p : Option ℕ} → declined n p ≡ mapped (λ e. bs) (reading bs) → is_question bs ≡ false
+unfolding is_question
+refused_asks bs h = ap (read_or false (λ e. true)) (read_refused bs h)
+
 -- what a question holds is one
 pub text_asks : (q : Question) → is_question (text q) ≡ true
 unfolding text
@@ -167,6 +171,10 @@ index_field (suc (suc (suc zero))) h = refl
 index_field (suc (suc (suc (suc k)))) h = absurd (omega arith)
 
 -- it reads its field only, and is its one step
+pub step_asks : (k v : ℕ) → k < 4 → v < 65536 → is_question (step k v) ≡ true
+unfolding is_question
+step_asks k v h l = ap (read_or false (λ e. true)) (reading_step k v h l)
+
 pub step_reads : (k v j : ℕ) → k < 4 → v < 65536 → reads_field (step k v) j ≡ eqb k j
 unfolding reads_field
 step_reads k v j h l =

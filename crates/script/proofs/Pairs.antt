@@ -28,17 +28,26 @@ module _ (w : List ℕ) (l : 2 ≤ length w) where
       onto (xs ++ ((a * 16 + b) ∷ [])) (pairs (take (length w - 2) (drop 2 w))) ≡ t
   one_more xs t a b h e f = sym (rw (front, e, f) (onto_some xs a b (pairs (take (length w - 2) (drop 2 w))))) ∙ h
 
--- no digit is left, or one
+-- no digit is left
 pub end : (xs w : List ℕ) → length w ≡ 0 → onto xs (pairs w) ≡ Some xs
 unfolding pairs
 end xs [] l = ap Some (append-nil xs)
 end xs (x ∷ w) l = absurd (omega arith)
 
-pub odd : (xs w : List ℕ) → length w ≡ 1 → onto xs (pairs w) ≡ None
+-- digits in odd number are none
+odd_by : (w : List ℕ) → length w % 2 ≡ 1 → pairs w ≡ None
 unfolding pairs
-odd xs [] l = absurd (omega arith)
-odd xs (x ∷ []) l = refl
-odd xs (x ∷ y ∷ w) l = absurd (omega arith)
+odd_by [] e = absurd (omega arith)
+odd_by (x ∷ []) e = refl
+odd_by (x ∷ y ∷ xs) e = let k : length xs % 2 ≡ 1 = omega arith in none (nibble x) (nibble y) (odd_by xs k)
+  where
+    none : (a b : Option ℕ) → pairs xs ≡ None → joined a b (pairs xs) ≡ None
+    none (Some a) (Some b) e = ap (joined (Some a) (Some b)) e
+    none (Some a) None e = refl
+    none None b e = refl
+
+pub odd : (w : List ℕ) → (length w % 2 ≡ 0 → ⊥) → pairs w ≡ None
+odd w h = odd_by w (omega (arith, h))
 
 -- ---- printed and read again
 

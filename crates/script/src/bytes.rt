@@ -33,6 +33,10 @@ fn is_sized(word: &[u8]) -> bool
 pub fn hex_digits(heap: Global, word: &[u8]) -> Result<Vec<u8>, LineError>
     ensures { IsReadBy (λ v. v.items) result (pairs word.now) }
 {
+    // Before anything is asked for, since a line of any length may be handed in.
+    if word.len() % 2 != 0 {
+        return Err(LineError::NotUnderstood);
+    }
     // a loop, since a push may fail, and two digits make one byte
     let mut bytes = Vec::new(heap);
     let mut rest = word;
@@ -40,11 +44,7 @@ pub fn hex_digits(heap: Global, word: &[u8]) -> Result<Vec<u8>, LineError>
         bytes.push(digit(*high)? * 16 + digit(*low)?)?;
         rest = others;
     }
-    if rest.is_empty() {
-        Ok(bytes)
-    } else {
-        Err(LineError::NotUnderstood)
-    }
+    Ok(bytes)
 }
 
 // The value of a hexadecimal digit.

@@ -1,5 +1,5 @@
 -- The weights of a table and the shares of an answer, in the order of the sheets.
-use Rattle.std.proofs.Common.{◌≡◌, ℕ, zero, suc, ◌+◌, ◌*◌, ◌<◌, ◌≤◌, min, max, Bool, true, false, cond, ◌&&◌, eqb, List, [], ◌∷◌, ◌++◌, length, get_or, take, sym, refl, ap, ◌∙◌, subst, arith, length-take, get_or-take, take-suc, nat_le, zero-add}
+use Rattle.std.proofs.Common.{◌≡◌, ℕ, zero, suc, ◌+◌, ◌*◌, ◌<◌, ◌≤◌, min, max, Bool, true, false, cond, ◌&&◌, eqb, List, [], ◌∷◌, length, get_or, take, sym, refl, ap, ◌∙◌, subst, arith, length-take, get_or-take, take-suc, nat_le, ◌≢◌, set, get_or-set_other}
 use Rattle.std.specs.List.{sum, fold, reduce, list_all}
 use Rattle.std.specs.Option.{unwrap_or}
 use Rattle.std.specs.Ordering.{max_by_ordering, nat_cmp}
@@ -7,15 +7,15 @@ use Rattle.std.proofs.Math.Seq.{take-length}
 use Rattle.std.proofs.lemmas.List.Elements.{All-from_get_or}
 use Rattle.std.proofs.lemmas.List.Folds.{list_all-append, max_of_map}
 use Rattle.std.proofs.lemmas.List.Sums.{sum_by-le}
-use Rattle.std.proofs.lemmas.List.{map-id, take_at}
+use Rattle.std.proofs.lemmas.List.Edits.{fill_by_more}
+use Rattle.std.proofs.lemmas.List.{map-id}
 use Rattle.question.specs.Questions.{all_below, answers}
 use Rattle.belief.specs.Meaning.{Meaning, kept, total_of, peak_of, whole_of, mass_of, heaviest_of}
 use Rattle.table.specs.declared.held.Table.{Table}
-use Rattle.table.specs.Places.{in_order, size_of, place_of, fits_in}
+use Rattle.table.specs.Places.{in_order, size_of}
 use Rattle.table.specs.Tables.{meaning}
 use Rattle.table.specs.Walks.{Stands, Shaped, first_sheet, next_sheet, shares_from}
 use Rattle.table.specs.Folds.{and_true, sheet_at, sum_in_order, max_in_order, all_in_order}
-use Rattle.table.specs.Order.{place_below, sheet_place}
 use Rattle.table.specs.Weights.{Shape, shape_of, weight_at_place, in_order_is}
 use Rattle.table.proofs.Fours.{stands_first, stands_sheet, next_stands}
 
@@ -33,10 +33,6 @@ all_items p xs = ap (list_all p) (sym (take-length xs)) ∙ all_listed p xs (len
 -- the greatest item of a list, or 0
 pub greatest : (xs : List ℕ) → unwrap_or (reduce (λ p z. max_by_ordering (nat_cmp p z) p z) xs) 0 ≡ fold max 0 xs
 greatest xs = ap (λ z. unwrap_or (reduce (λ p z. max_by_ordering (nat_cmp p z) p z) z) 0) (sym (map-id xs)) ∙ max_of_map (λ x. x) xs
-
--- a copy stands before what was there
-front : (xs ys zs : List ℕ) → xs ≡ zs → take (length zs) (xs ++ ys) ≡ zs
-front xs ys zs e = ap (λ z. take (length zs) (z ++ ys)) e ∙ take_at zs ys _ refl
 
 -- ---- shares from a sheet on
 
@@ -126,26 +122,23 @@ pub heaviest_in_order : (m : Meaning) (q : List ℕ) (a : ℕ) → fold max 0 (i
 unfolding heaviest_of
 heaviest_in_order m q a = max_in_order m.tops (kept q a m.weight)
 
--- ---- writing the shares
+-- ---- writing
 
--- the weights of a table with the shares in their place
-module _ (t : Table) (q : List ℕ) (a : ℕ) (xs ys : List ℕ) (e : xs ≡ shares_from q a t.span.tops first_sheet (take (min (size_of t.span.tops) 1024) t.weights)) where
-  abbrev n : ℕ
-  n = min (size_of t.span.tops) 1024
+-- the weight at a place if its sheet gives the answer, else 0
+unfoldable pub share_at : List ℕ → ℕ → List ℕ → List ℕ → ℕ → ℕ
+share_at q a tops ws i = cond (eqb (answers q (sheet_at tops i)) a) (get_or ws i 0) 0
 
-  held_few : length (take n t.weights) ≡ n
-  held_few = let p = t.places in let l = length-take n t.weights in omega arith
+pub share_is : (q tops ws s : List ℕ) (a i x : ℕ) → length tops ≡ 4 → Stands tops s i → x ≡ cond (eqb (answers q s) a) (get_or ws i 0) 0 → x ≡ share_at q a tops ws i
+unfolding share_at
+share_is q tops ws s a i x l e h = h ∙ ap (λ z. cond (eqb (answers q z) a) (get_or ws i 0) 0) (stands_sheet tops s i l e)
 
-  written : take n (xs ++ ys) ≡ shares_from q a t.span.tops first_sheet (take n t.weights)
-  written = ap (λ m. take m (xs ++ ys)) (sym (shares_length q a t.span.tops first_sheet (take n t.weights) ∙ held_few)) ∙ front xs ys _ e
+-- one weight more is written
+pub write_more : (f : ℕ → ℕ) (ws : List ℕ) (i y : ℕ) → i < length ws → ((j : ℕ) → j < i → get_or ws j 0 ≡ f j) → y ≡ f i → (j : ℕ) → j < i + 1 → get_or (set ws i y) j 0 ≡ f j
+write_more f ws i y l h e j k = ap (λ z. get_or (set ws i z) j 0) e ∙ fill_by_more f ws i 0 l h j k
 
-  pub kept_weights : (s : List ℕ) → length s ≡ 4 → fits_in t.span.tops s ≡ true → place_of t.span.tops s < 1024 →
-      get_or (xs ++ ys) (place_of t.span.tops s) 0 ≡ cond (eqb (answers q s) a) (get_or t.weights (place_of t.span.tops s) 0) 0
-  kept_weights s l f p =
-      let i = place_of t.span.tops s in
-      let b = place_below t.span.tops s (l ∙ sym t.four) f in
-      let m = held_few in
-      sym (get_or-take n (xs ++ ys) i 0 (omega arith)) ∙ ap (λ z. get_or z i 0) written
-      ∙ shares_at q a t.span.tops t.four (take n t.weights) first_sheet 0 (stands_first t.span.tops t.four) (omega arith) i (omega arith)
-      ∙ ap (λ z. cond (eqb (answers q z) a) (get_or (take n t.weights) i 0) 0) (ap (sheet_at t.span.tops) (zero-add i) ∙ sheet_place t.span.tops s (l ∙ sym t.four) f)
-      ∙ ap (λ z. cond (eqb (answers q s) a) z 0) (get_or-take n t.weights i 0 (omega arith))
+pub write_rest : (ws us : List ℕ) (i y : ℕ) → ((j : ℕ) → i ≤ j → get_or ws j 0 ≡ get_or us j 0) → (j : ℕ) → i + 1 ≤ j → get_or (set ws i y) j 0 ≡ get_or us j 0
+write_rest ws us i y h j k = let ne : j ≢ i = omega arith in get_or-set_other ws i j y 0 ne ∙ h j (omega arith)
+
+-- the sheet after a sheet, under equal tops
+pub next_along : (xs ys s r : List ℕ) (i : ℕ) → xs ≡ ys → ((i : ℕ) → Stands xs s i → i + 1 < size_of xs → Stands xs r (i + 1)) → Stands ys s i → i + 1 < size_of ys → Stands ys r (i + 1)
+next_along xs ys s r i e h = subst (λ z. Stands z s i → i + 1 < size_of z → Stands z r (i + 1)) e (h i)

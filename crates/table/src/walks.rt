@@ -91,24 +91,14 @@ impl Table {
     pub(crate) fn keep(&mut self, question: &Question, answer: u8)
         ensures { Kept (text question.now) answer self.old self.new }
     {
-        let places = self.places();
-        // A copy is lent, since the checker lends no field that stands beside ghost fields.
-        let mut weights = self.weights;
-        keep_shares(&mut weights[..places], question, answer, self.span.tops);
-        self.weights = weights;
-    }
-}
-
-// Sets to 0 the weight of each sheet that does not give an answer, from the first sheet on. It steps from sheet to sheet
-// itself, since shares lend the weights that are written here.
-fn keep_shares(weights: &mut [u32], question: &Question, answer: u8, tops: [u8; 4])
-    ensures { weights.new ≡ shares_from (text question.now) answer tops first_sheet weights.old }
-{
-    let mut sheet = [0; 4];
-    for w in weights.iter_mut() {
-        *w = share(question, answer, sheet, *w);
-        let after = next(tops, sheet);
-        sheet = after;
+        // By index and in place: the checker lends no field that stands beside ghost fields, and a copy of all places costs more than
+        // the walk over a small table. It steps from sheet to sheet itself, since shares lend the weights that are written here.
+        let mut sheet = [0; 4];
+        for i in 0..self.places() {
+            self.weights[i] = share(question, answer, sheet, self.weights[i]);
+            let after = next(self.span.tops, sheet);
+            sheet = after;
+        }
     }
 }
 
