@@ -1,5 +1,5 @@
 -- What takers make of one piece, and of many.
-use Rattle.std.proofs.Common.{◌≡◌, ℕ, ◌+◌, ◌*◌, ◌<◌, ◌≤◌, min, max, true, false, cond, eqb, ltb, List, get_or, set, sym, ap, ◌∙◌, le-ltb, lt-ltb, eq-eqb, ne_eqb, ◌≢◌}
+use Rattle.std.proofs.Common.{◌≡◌, ℕ, ◌+◌, ◌*◌, ◌<◌, ◌≤◌, min, max, Bool, true, false, cond, eqb, ltb, List, get_or, set, sym, ap, ◌∙◌, le-ltb, lt-ltb}
 use Rattle.question.specs.declared.checked.Question.{Question}
 use Rattle.question.specs.Texts.{text}
 use Rattle.ranges.specs.declared.shapes.Side.{Side}
@@ -24,33 +24,30 @@ put_full l b bs n h e f =
     λ i. record { boxes = (e ∙ sym c) i; len = f i }
 
 module _ (q : Question) (p : WeightedBox) (x : ℕ) (given : x ≡ answer_of (text q) p) where
-  yes : (a : ℕ) → x ≡ a → eqb (answer_of (text q) p) a ≡ true
-  yes a e = eq-eqb _ _ (sym given ∙ e)
+  wanted : (a : ℕ) (b : Bool) → b ≡ eqb x a → eqb (answer_of (text q) p) a ≡ b
+  wanted a b e = sym (e ∙ ap (λ z. eqb z a) given)
 
-  no : (a : ℕ) → (x ≢ a) → eqb (answer_of (text q) p) a ≡ false
-  no a d = ne_eqb _ _ (λ e. d (given ∙ e))
-
-  pub sift_yes : (a : ℕ) (l m : BoxList) → x ≡ a → m ≡ put l p → record { wanted = record { question = q; answer = a }; kept = m } ≡ sifted (record { wanted = record { question = q; answer = a }; kept = l }) p
+  pub sift_yes : (a : ℕ) (l m : BoxList) → true ≡ eqb x a → m ≡ put l p → record { wanted = record { question = q; answer = a }; kept = m } ≡ sifted (record { wanted = record { question = q; answer = a }; kept = l }) p
   unfolding sifted
-  sift_yes a l m e f = let y = yes a e in simp (y, f)
+  sift_yes a l m e f = let y = wanted a true e in simp (y, f)
 
-  pub sift_no : (a : ℕ) (l : BoxList) → (x ≢ a) → record { wanted = record { question = q; answer = a }; kept = l } ≡ sifted (record { wanted = record { question = q; answer = a }; kept = l }) p
+  pub sift_no : (a : ℕ) (l : BoxList) → false ≡ eqb x a → record { wanted = record { question = q; answer = a }; kept = l } ≡ sifted (record { wanted = record { question = q; answer = a }; kept = l }) p
   unfolding sifted
-  sift_no a l d = let n = no a d in simp n
+  sift_no a l e = let n = wanted a false e in simp n
 
   module _ (a : ℕ) (ns : List ℕ) (m h i n : ℕ) (at_x : i ≡ x) (one : n ≡ min (get_or ns i 0 + 1) 255) where
     count_is : set ns i n ≡ counted ns (answer_of (text q) p)
     unfolding counted
     count_is = ap (set ns i) one ∙ ap (λ z. set ns z (min (get_or ns z 0 + 1) 255)) (at_x ∙ given)
 
-    pub tally_yes : (v k j : ℕ) → x ≡ a → v ≡ capped (volume p.sides * p.weight) → k ≡ capped (m + v) → j ≡ max h p.weight →
+    pub tally_yes : (v k j : ℕ) → true ≡ eqb x a → v ≡ capped (volume p.sides * p.weight) → k ≡ capped (m + v) → j ≡ max h p.weight →
         record { wanted = record { question = q; answer = a }; pieces = set ns i n; mass = k; heaviest = j } ≡ tallied (record { wanted = record { question = q; answer = a }; pieces = ns; mass = m; heaviest = h }) p
     unfolding tallied
-    tally_yes v k j e f g l = let y = yes a e in let c = count_is in simp (y, c, g, f, l)
+    tally_yes v k j e f g l = let y = wanted a true e in let c = count_is in simp (y, c, g, f, l)
 
-    pub tally_no : (x ≢ a) → record { wanted = record { question = q; answer = a }; pieces = set ns i n; mass = m; heaviest = h } ≡ tallied (record { wanted = record { question = q; answer = a }; pieces = ns; mass = m; heaviest = h }) p
+    pub tally_no : false ≡ eqb x a → record { wanted = record { question = q; answer = a }; pieces = set ns i n; mass = m; heaviest = h } ≡ tallied (record { wanted = record { question = q; answer = a }; pieces = ns; mass = m; heaviest = h }) p
     unfolding tallied
-    tally_no d = let y = no a d in let c = count_is in simp (y, c)
+    tally_no e = let y = wanted a false e in let c = count_is in simp (y, c)
 
 module _ (x : List Side) (f : ℕ) (p : WeightedBox) (s : List ℕ) (at : s ≡ corner p.sides) where
   pub press_yes : (w : ℕ) → true ≡ inside x s → w ≡ capped (p.weight * f) → record { sides = p.sides; weight = w } ≡ capped_piece x f p

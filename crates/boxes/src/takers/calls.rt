@@ -1,5 +1,5 @@
 // What each taker does with a piece.
-ghost use Rattle.std.specs.Prelude.{◌≡◌, ◌≤◌, suc, nat_le, slice_index};
+ghost use Rattle.std.specs.Prelude.{◌≡◌, ◌≤◌, suc, ◌==◌, nat_le, slice_index};
 ghost use Rattle.question.specs.Expressions.{greatest};
 ghost use Rattle.question.specs.Questions.{all_below};
 ghost use Rattle.question.specs.Texts.{text};
@@ -50,7 +50,7 @@ impl Taker for Tally {
         let given = self.wanted.given_by(piece);
         let place = usize::from(given);
         self.pieces[place] = self.pieces[place].saturating_add(1);
-        if given == self.wanted.answer {
+        if is_wanted(given, self.wanted.answer) {
             self.mass = self.mass.saturating_add(mass_of(piece));
             self.heaviest = self.heaviest.max(piece.weight);
         }
@@ -61,7 +61,7 @@ impl Taker for Sieve {
     ghost taken = { sifted };
 
     fn take(&mut self, piece: WeightedBox) {
-        if self.wanted.given_by(piece) == self.wanted.answer {
+        if is_wanted(self.wanted.given_by(piece), self.wanted.answer) {
             self.kept.push(piece);
         }
     }
@@ -87,4 +87,11 @@ impl Taker for Press {
         let pressed = self.press(piece);
         self.kept.push(pressed);
     }
+}
+
+// Whether the answer that was given is the one asked for.
+fn is_wanted(given: u8, answer: u8) -> bool
+    ensures { result ≡ (given == answer) }
+{
+    given == answer
 }
