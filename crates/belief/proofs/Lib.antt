@@ -2,6 +2,5 @@ pub mod Sums
 pub mod Products
 pub mod Replies
 pub mod Revisings
-pub mod Fours
 pub mod Spanned
 pub mod Sheets

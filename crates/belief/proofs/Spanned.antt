@@ -10,7 +10,7 @@ use Rattle.refusal.specs.Replies.{Reply, given, declined, refuse_if}
 use Rattle.belief.specs.declared.spans.Span.{Span}
 use Rattle.belief.specs.Meaning.{Agree}
 use Rattle.belief.specs.Spans.{good_span, zero_outside, span_value, span_only, span_made, most_total, good_total}
-use Rattle.belief.proofs.Fours.{fours}
+use Rattle.question.proofs.Fours.{fours}
 
 -- ---- what the tests of a span and of a total say
 

@@ -6,7 +6,7 @@ use Rattle.question.specs.Steps.{step}
 use Rattle.question.proofs.Questions.{impossible, reads_inside, inside_reads, step_inside, step_outside}
 use Rattle.belief.specs.Joined.{joined}
 use Rattle.belief.specs.Meaning.{Meaning, Laws, total_of}
-use Rattle.belief.proofs.Fours.{fours}
+use Rattle.question.proofs.Fours.{fours}
 use Rattle.pair.specs.Pairs.{paired, pair_carries}
 use Rattle.pair.specs.Folds.{Parts, apart, pair_total}
 

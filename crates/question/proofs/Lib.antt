@@ -1,3 +1,4 @@
+pub mod Fours
 pub mod Operands
 pub mod Scan
 pub mod Firsts

@@ -2,7 +2,7 @@
 use Rattle.std.proofs.Common.{◌≡◌, ℕ, ◌+◌, ◌*◌, ◌<◌, ◌≤◌, Bool, true, false, cond, ◌&&◌, nat_le, ltb, List, [], ◌∷◌, length, get_or, sym, subst, refl, ap, ◌∙◌, inl, inr, add-zero, mul-le-mul_right, add-mul, one-mul, mul-one, arith, le-leb, ltb-true, ltb-false}
 use Rattle.std.specs.List.{list_all, zip}
 use Rattle.std.proofs.lemmas.Bool.{cases_lt}
-use Rattle.belief.proofs.Fours.{four_of, fours}
+use Rattle.question.proofs.Fours.{four_of, fours}
 use Rattle.table.specs.Places.{size_of, place_of, fits_in}
 use Rattle.table.specs.Walks.{Stands, first_sheet, next_sheet}
 use Rattle.table.specs.Folds.{and_true, sheet_at}

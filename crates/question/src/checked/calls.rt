@@ -62,7 +62,6 @@ impl Question {
     }
 
     // The answer that a sheet gives.
-    #[tactic(auto, using(crate::proofs::Questions::answers_value))]
     pub fn answer(&self, sheet: [u8; 4]) -> u8
         ensures { result ≡ answers (text self.now) sheet }
     {

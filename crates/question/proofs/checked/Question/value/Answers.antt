@@ -1,4 +1,4 @@
--- What `value` leaves to show.
+-- What `value` leaves to show, of a sheet that is handed on value by value too.
 use Rattle.std.proofs.Common.{◌≡◌, ℕ, ◌≤◌, [], get_or, pos, nat_abs, sym, ap, ◌∙◌, subst, arith, w64, to_z, of_z, rules}
 use Rattle.std.proofs.lemmas.Int.{to_z-of_z}
 use Rattle.question.specs.Expressions.{worth, bound}
@@ -7,6 +7,7 @@ use Rattle.question.specs.Questions.{read_or, value_of, bound_of}
 use Rattle.question.specs.Texts.{text}
 use Rattle.question.proofs.Values.{within, small_bound, fits64}
 use Rattle.question.proofs.Asked.{held, begins}
+use Rattle.question.proofs.Fours.{fours}
 use Rattle.question.proofs.checked.Question.value.Goals as goal
 
 pub value-requires : goal.value-requires
@@ -20,7 +21,9 @@ returns c =
     let a = held c.args.self.now in
     let f : (k : ℕ) → get_or s k 0 ≤ 255 = search rules in
     let X = c.value.result.0 in
-    let e : X ≡ worth a.tree s = c.value.ensures.has a.tree [] (c.text.ensures ∙ a.is) in
+    let has = c.value.ensures.has a.tree [] (c.text.ensures ∙ a.is) in
+    let four = sym (fours s (search rules)) in
+    let e : X ≡ worth a.tree s = search (rules, has, four) in
     let w : nat_abs X ≤ bound a.tree = subst (λ v. nat_abs v ≤ bound a.tree) (sym e) (within a.tree s f) in
     let x = fits64 X (omega (arith, w, small_bound a.tree a.small)) in
     let r = to_z-of_z w64 X x in
